@@ -1,0 +1,3 @@
+-- The laws about the definitions of specs/. docs/PROOFS.md lists them in words.
+pub mod Tests
+pub mod Rows

@@ -1,0 +1,101 @@
+-- Tests that the checker computes over a row, and what a passed test says of each entry.
+-- Assumes nothing.
+use Prim.Native.Nat.{ℕ, zero, suc, _+_, _≤_, _<_}
+use native.Mathlib.Omega.{arith}
+use mathlib.Core.Path.{_≡_, refl, sym, subst}
+use mathlib.Core.Logic.{_⊎_, inl, inr}
+use mathlib.Core.Bool.{Bool, true, false, not, _&&_, _||_}
+use mathlib.Core.List.{List, [], _∷_}
+use lib.Dec.{T, eqb, ltb, eqb→eq, eqb-refl}
+use borrow.Author.Tests.{eqb-false}
+use Rattle.nr.specs.Rows.{count, has}
+
+-- each entry passes
+abbrev pub all : (ℕ → Bool) → List ℕ → Bool
+all f [] = true
+all f (x ∷ xs) = f x && all f xs
+
+-- no entry stands twice
+abbrev pub distinct : List ℕ → Bool
+distinct [] = true
+distinct (x ∷ xs) = not (has x xs) && distinct xs
+
+-- each entry is below all that come after it
+abbrev pub ascending : List ℕ → Bool
+ascending [] = true
+ascending (x ∷ xs) = all (λ y. ltb x y) xs && ascending xs
+
+-- ---- truth of a test
+
+pub left : (a b : Bool) → T (a && b) → T a
+left true b t = tt
+left false b t = t
+
+pub right : (a b : Bool) → T (a && b) → T b
+right true b t = t
+right false b t = absurd t
+
+pub pair : (a b : Bool) → T a → T b → T (a && b)
+pair true b t u = u
+pair false b t u = t
+
+pub or-left : (a b : Bool) → T a → T (a || b)
+or-left true b t = tt
+or-left false b t = absurd t
+
+pub or-right : (a b : Bool) → T b → T (a || b)
+or-right true b t = tt
+or-right false b t = t
+
+pub is : (b : Bool) → T b → b ≡ true
+is true t = refl
+is false t = absurd t
+
+pub isn't : (b : Bool) → T (not b) → b ≡ false
+isn't true t = absurd t
+isn't false t = refl
+
+pub holds : {b : Bool} → b ≡ true → T b
+holds e = subst T (sym e) tt
+
+pub clash : {X : Type 0} {b : Bool} → b ≡ true → b ≡ false → X
+clash {X} {b} e e′ = absurd (subst T e′ (holds e))
+
+-- ---- entries
+
+pub here : (x : ℕ) (xs : List ℕ) → T (has x (x ∷ xs))
+here x xs = or-left (eqb x x) (has x xs) (eqb-refl x)
+
+pub there : (x y : ℕ) (xs : List ℕ) → T (has x xs) → T (has x (y ∷ xs))
+there x y xs h = or-right (eqb x y) (has x xs) h
+
+pub cases : (x y : ℕ) (xs : List ℕ) → T (has x (y ∷ xs)) → (x ≡ y) ⊎ T (has x xs)
+cases x y xs h = go (eqb x y) refl h
+  where
+    go : (c : Bool) → eqb x y ≡ c → T (c || has x xs) → (x ≡ y) ⊎ T (has x xs)
+    go true q h = inl (eqb→eq x y (holds q))
+    go false q h = inr h
+
+-- what a passed test says of an entry
+pub all-has : (f : ℕ → Bool) (xs : List ℕ) → T (all f xs) → (x : ℕ) → T (has x xs) → T (f x)
+all-has f [] t x h = absurd h
+all-has f (y ∷ ys) t x h = elim (cases x y ys h) [
+  | inl e ↦ subst (λ (z : ℕ). T (f z)) (sym e) (left (f y) (all f ys) t)
+  | inr u ↦ all-has f ys (right (f y) (all f ys) t) x u
+]
+
+pub all-from : (f : ℕ → Bool) (xs : List ℕ) → ((x : ℕ) → T (has x xs) → T (f x)) → T (all f xs)
+all-from f [] e = tt
+all-from f (x ∷ xs) e = pair (f x) (all f xs) (e x (here x xs)) (all-from f xs (λ p h. e p (there p x xs h)))
+
+pub has-count : (a k x : ℕ) → a ≤ x → x < a + k → T (has x (count a k))
+has-count a zero x l h = let z : ⊥ = omega arith in absurd z
+has-count a (suc k) x l h = go (eqb x a) refl (λ (m : suc a ≤ x). has-count (suc a) k x m (omega arith))
+  where
+    go : (c : Bool) → eqb x a ≡ c → (suc a ≤ x → T (has x (count (suc a) k))) → T (c || has x (count (suc a) k))
+    go true q r = tt
+    go false q r = let ne : x ≡ a → ⊥ = eqb-false x a q in r (omega (arith, ne))
+
+-- what a test that all of a range passes says of a number in it
+pub all-count : (f : ℕ → Bool) (a k : ℕ) → T (all f (count a k)) → (x : ℕ) → a ≤ x → x < a + k → T (f x)
+all-count f a k t x l h = all-has f (count a k) t x (has-count a k x l h)

@@ -1,0 +1,65 @@
+-- Document 01, "Numbers given back".
+-- Assumes nothing.
+use Prim.Native.Nat.{ℕ, zero, suc}
+use mathlib.Core.Bool.{Bool, true, false, cond, not, _||_}
+use mathlib.Core.List.{List, [], _∷_}
+use lib.Dec.{eqb, ltb}
+use Rattle.nr.specs.declared.Answer.{Answer}
+use Rattle.nr.specs.declared.Answer.the-variants.{Done, PayloadSize, CodedLength, TooManyBits, InputLength, OutputLength, BadEntry, ParityMismatch}
+use Rattle.nr.specs.Rows.{has}
+use Rattle.nr.specs.Numbers.{K, lengths}
+
+-- the number of each answer
+unfoldable pub number : Answer → ℕ
+number Done = 0
+number PayloadSize = 1
+number CodedLength = 2
+number TooManyBits = 3
+number InputLength = 4
+number OutputLength = 5
+number (BadEntry k) = 6
+number ParityMismatch = 7
+
+-- the place that it carries; 0 where the paper gives none
+unfoldable pub placeOf : Answer → ℕ
+placeOf Done = 0
+placeOf PayloadSize = 0
+placeOf CodedLength = 0
+placeOf TooManyBits = 0
+placeOf InputLength = 0
+placeOf OutputLength = 0
+placeOf (BadEntry k) = k
+placeOf ParityMismatch = 0
+
+-- the numbers from i on, one for each test in turn: the first whose test applies, 0 if none does
+abbrev pub firstOf : ℕ → List Bool → ℕ
+firstOf i [] = 0
+firstOf i (test ∷ tests) = cond test i (firstOf (suc i) tests)
+
+-- the tests of 1 to 3, with those of 4 to 6 behind them
+abbrev pub tests : ℕ → ℕ → List Bool → List Bool
+tests A E more = (ltb A 12 || ltb 140 A) ∷ not (has E lengths) ∷ ltb E (K A) ∷ more
+
+-- the numbers 1 to 3: 0 where A and E are accepted
+unfoldable pub refusal : ℕ → ℕ → ℕ
+refusal A E = firstOf 1 (tests A E [])
+
+-- the numbers 1 to 6: the input is `given` long and should be `asked`, the output `room` and should be `wanted`,
+-- and the first bad entry stands at `bad`, which is the input's length if there is none
+unfoldable pub refusalOf : ℕ → ℕ → ℕ → ℕ → ℕ → ℕ → ℕ → ℕ
+refusalOf A E given asked room wanted bad = firstOf 1 (tests A E (not (eqb given asked) ∷ not (eqb room wanted) ∷ ltb bad given ∷ []))
+
+-- what a call gives: the number, the place that it carries, and what the output buffer then holds
+pub record Outcome : Type 0 where
+  pub number : ℕ
+  pub place : ℕ
+  pub buffer : List ℕ
+
+-- by the number: 0 leaves the new row in the buffer, every other the old one; 6 carries the place
+unfoldable pub outcome : ℕ → ℕ → List ℕ → List ℕ → Outcome
+outcome zero bad new old = record { number = 0; place = 0; buffer = new }
+outcome (suc i) bad new old = record { number = suc i; place = cond (eqb (suc i) 6) bad 0; buffer = old }
+
+-- an answer of the code with the buffer that it leaves, as such
+unfoldable pub given : Answer → List ℕ → Outcome
+given r buffer = record { number = number r; place = placeOf r; buffer = buffer }

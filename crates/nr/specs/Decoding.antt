@@ -1,0 +1,43 @@
+-- Decoding: from the numbers, the soft values and the old output buffer to the outcome, for all inputs.
+-- Assumes nothing.
+use Prim.Native.Nat.{ℕ, zero, suc, _^_}
+use mathlib.Core.Bool.{Bool, cond}
+use mathlib.Core.List.{List}
+use lib.Dec.{ltb}
+use lib.IntN.{ℤ, natAbs}
+use lib.ListN.{length, take}
+use Rattle.nr.specs.declared.Numbers.{Numbers}
+use Rattle.nr.specs.Rows.{first, entries}
+use Rattle.nr.specs.Numbers.{K}
+use Rattle.nr.specs.Answer.{refusalOf, Outcome, outcome}
+use Rattle.nr.specs.Parity.{maskRnti, parityMatches}
+use Rattle.nr.specs.Interleaver.{deinterleave}
+use Rattle.nr.specs.Construction.{Layout, layout}
+use Rattle.nr.specs.Scrambling.{gold}
+use Rattle.nr.specs.SuccessiveDecoder.{descramble, codeRow, successive, marks}
+
+-- the decided bits, in order of position, of a row of E soft values
+unfoldable pub decided : Layout → ℕ → ℕ → List ℤ → List ℕ
+decided l E start soft =
+    successive (l .n) (marks (2 ^ l .n) (l .positions))
+    (codeRow (l .kind) (2 ^ l .n) E (descramble (gold start E) soft))
+
+-- the row b of payload and parity: the interleaver undone, the RNTI added again
+unfoldable pub received : Layout → ℕ → ℕ → ℕ → List ℤ → List ℕ
+received l E rnti start soft = maskRnti rnti (deinterleave (entries (l .positions) (decided l E start soft)))
+
+-- number 7 where the parity does not match, after the numbers before it
+unfoldable pub orParity : ℕ → ℕ → List ℕ → ℕ
+orParity zero A b = cond (parityMatches A b) 0 7
+orParity (suc i) A b = suc i
+
+-- the place of the first soft value outside -127..127
+unfoldable pub badSoft : List ℤ → ℕ
+badSoft = first (λ x. ltb 127 (natAbs x))
+
+-- document 01's call
+unfoldable pub decoding : Numbers → List ℤ → List ℕ → Outcome
+decoding s soft out =
+    let b : List ℕ = received (layout (K (s .a)) (s .e)) (s .e) (s .rnti) (s .«n_id») soft in
+    let i : ℕ = refusalOf (s .a) (s .e) (length soft) (s .e) (length out) (s .a) (badSoft soft) in
+    outcome (orParity i (s .a) b) (badSoft soft) (take (s .a) b) out

@@ -1,0 +1,35 @@
+-- Demand 3: coding gives 0, and from every noiseless row decoding under the same numbers gives 0 and exactly that payload.
+-- The statement; its proof is `demand3` of proofs/Demand3.antt.
+-- Assumes nothing.
+use mathlib.Core.Path.{_≡_}
+use Prim.Native.Nat.{ℕ, _≤_, _<_}
+use mathlib.Core.List.{List}
+use lib.IntN.{ℤ, pos, natAbs}
+use lib.Signed.{_<ℤ_}
+use lib.ListN.{length, getD}
+use Rattle.nr.specs.declared.Numbers.{Numbers}
+use Rattle.nr.specs.Answer.{refusal, Outcome}
+use Rattle.nr.specs.Coding.{coding}
+use Rattle.nr.specs.Decoding.{decoding}
+
+-- none of 1 to 3 applies to A and E
+abbrev pub Accepted : Numbers → Type 0
+Accepted s = refusal (s .a) (s .e) ≡ 0
+
+-- A bits
+pub record Payload (s : Numbers) (payload : List ℕ) : Type 0 where
+  pub size : length payload ≡ s .a
+  pub bits : (k : ℕ) → k < s .a → getD payload k 0 ≤ 1
+
+-- E soft values in -127..127, positive where the sent byte is 0 and negative where it is 1, so that none is 0
+pub record Noiseless (s : Numbers) (sent : List ℕ) (soft : List ℤ) : Type 0 where
+  pub size : length soft ≡ s .e
+  pub range : (k : ℕ) → k < s .e → natAbs (getD soft k (pos 0)) ≤ 127
+  pub positive : (k : ℕ) → k < s .e → getD sent k 0 ≡ 0 → pos 0 <ℤ getD soft k (pos 0)
+  pub negative : (k : ℕ) → k < s .e → getD sent k 0 ≡ 1 → getD soft k (pos 0) <ℤ pos 0
+
+-- Of the RNTI and n_ID nothing is asked. `out` is the output buffer before coding, `out′` that before decoding.
+pub record Demand3 (s : Numbers) (payload out : List ℕ) : Type 0 where
+  pub codes : coding s payload out .number ≡ 0
+  pub decodes : (soft : List ℤ) (out′ : List ℕ) → Noiseless s (coding s payload out .buffer) soft → length out′ ≡ s .a
+      → decoding s soft out′ ≡ record { number = 0; place = 0; buffer = payload }

@@ -1,0 +1,16 @@
+-- What a reader must believe: document 01, a module for each of its sections, in its order.
+-- Rows is the vocabulary; Coding and Decoding put the sections together; Demand3 says that the two belong together.
+pub mod Rows
+pub mod Numbers
+pub mod Answer
+pub mod Parity
+pub mod Interleaver
+pub mod Reliability
+pub mod Construction
+pub mod Transform
+pub mod RateMatching
+pub mod Scrambling
+pub mod SuccessiveDecoder
+pub mod Coding
+pub mod Decoding
+pub mod Demand3

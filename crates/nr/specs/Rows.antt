@@ -1,0 +1,65 @@
+-- Vocabulary: rows of numbers and the bits of a number. A row is a list, its places are counted from 0, and a bit is 0 or 1.
+-- Assumes nothing.
+use Prim.Native.Nat.{ℕ, zero, suc, _+_, _-_, _*_, _/_, _%_, _^_}
+use mathlib.Core.Bool.{Bool, true, false, cond, _&&_, _||_}
+use mathlib.Core.List.{List, [], _∷_, map, zipWith}
+use lib.Dec.{eqb}
+use lib.ListN.{length, getD, drop}
+
+-- a, a + 1, ..: k numbers
+abbrev pub count : ℕ → ℕ → List ℕ
+count a zero = []
+count a (suc k) = a ∷ count (suc a) k
+
+-- the entries that pass the test, in order
+abbrev pub keep : (ℕ → Bool) → List ℕ → List ℕ
+keep f [] = []
+keep f (x ∷ xs) = cond (f x) (x ∷ keep f xs) (keep f xs)
+
+-- x is an entry
+abbrev pub has : ℕ → List ℕ → Bool
+has x [] = false
+has x (y ∷ ys) = eqb x y || has x ys
+
+-- the first place that passes the test; the row's length if none does
+abbrev pub first : {X : Type 0} → (X → Bool) → List X → ℕ
+first f [] = 0
+first f (x ∷ xs) =
+    let later = suc (first f xs) in
+    cond (f x) 0 later
+
+-- the first place where x stands
+abbrev pub place : ℕ → List ℕ → ℕ
+place x = first (eqb x)
+
+-- the k last entries
+abbrev pub last : ℕ → List ℕ → List ℕ
+last k xs = drop (length xs - k) xs
+
+-- the entries at the places given, 0 past the row's end
+abbrev pub entries : List ℕ → List ℕ → List ℕ
+entries places row = map (λ i. getD row i 0) places
+
+-- two rows hold the same
+abbrev pub same : List ℕ → List ℕ → Bool
+same [] [] = true
+same [] (y ∷ ys) = false
+same (x ∷ xs) [] = false
+same (x ∷ xs) (y ∷ ys) = eqb x y && same xs ys
+
+-- bit i of x, the lowest being bit 0
+abbrev pub bit : ℕ → ℕ → ℕ
+bit i x = x / 2 ^ i % 2
+
+-- the lowest k bits of x, most significant first
+abbrev pub msbFirst : ℕ → ℕ → List ℕ
+msbFirst zero x = []
+msbFirst (suc k) x = bit k x ∷ msbFirst k x
+
+-- addition mod 2: of two bits, of two rows of bits place by place
+abbrev pub xor : ℕ → ℕ → ℕ
+xor a b = (a + b) % 2
+
+unfoldable pub xors : List ℕ → List ℕ → List ℕ
+unfolding zipWith
+xors = zipWith xor
