@@ -1,3 +1,7 @@
 -- The laws about the definitions of specs/. docs/PROOFS.md lists them in words.
 pub mod Tests
 pub mod Rows
+pub mod Zip
+pub mod Transform
+pub mod SuccessiveDecoder
+pub mod SubBlocks
