@@ -5,3 +5,6 @@ pub mod Zip
 pub mod Transform
 pub mod SuccessiveDecoder
 pub mod SubBlocks
+pub mod Construction
+pub mod Interleaver
+pub mod Parity

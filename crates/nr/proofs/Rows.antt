@@ -12,7 +12,7 @@ use lib.ListN.{length, getD, drop, length-map}
 use lib.Seq.{ext-getD}
 use borrow.Author.Tests.{eqb-false, ne-eqb, eq-eqb}
 use Rattle.nr.specs.Rows.{count, has, keep, first, place, entries, same}
-use Rattle.nr.proofs.Tests.{all, distinct, ascending, left, right, pair, is, isn't, holds, here, there, cases, all-has, all-from}
+use Rattle.nr.proofs.Tests.{all, distinct, ascending, left, right, pair, is, isn't, off, holds, here, there, cases, all-has, all-from}
 
 -- ---- ranges, and rows that are a function of the place
 
@@ -81,11 +81,6 @@ module _ (f : ℕ → Bool) where
     where
       go : (c : Bool) → T (distinct (keep f ys)) → T (distinct (cond c (y ∷ keep f ys) (keep f ys)))
       go true d = pair (not (has y (keep f ys))) (distinct (keep f ys)) (off (has y ys) (has y (keep f ys)) (left (not (has y ys)) (distinct ys) t) (λ h. kept ys y h .0)) d
-        where
-          off : (b c : Bool) → T (not b) → (T c → T b) → T (not c)
-          off true c t r = absurd t
-          off false true t r = r tt
-          off false false t r = tt
       go false d = d
 
   pub keep-all : (xs : List ℕ) → ((x : ℕ) → T (has x xs) → T (f x)) → keep f xs ≡ xs

@@ -55,6 +55,12 @@ pub isn't : (b : Bool) → T (not b) → b ≡ false
 isn't true t = absurd t
 isn't false t = refl
 
+-- what does not follow from a test that fails, fails
+pub off : (b c : Bool) → T (not b) → (T c → T b) → T (not c)
+off true c t r = absurd t
+off false true t r = r tt
+off false false t r = tt
+
 pub holds : {b : Bool} → b ≡ true → T b
 holds e = subst T (sym e) tt
 

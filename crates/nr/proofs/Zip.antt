@@ -50,6 +50,9 @@ module _ {A B C : Type 0} (h : A → B → C) where
   zipWith-append (x ∷ a) c [] d e = absurd (suc-ne-zero (length a) e)
   zipWith-append (x ∷ a) c (y ∷ b) d e = ap (λ (r : List C). h x y ∷ r) (zipWith-append a c b d (suc-inj e))
 
+pub cons : {x y : ℕ} {a b : List ℕ} → x ≡ y → a ≡ b → x ∷ a ≡ y ∷ b
+cons p q = ap₂ (λ (r : ℕ) (s : List ℕ). r ∷ s) p q
+
 -- ---- rows of bits
 
 -- each entry is 0 or 1
@@ -103,6 +106,14 @@ pub getD-xors : (p q : List ℕ) (k : ℕ) → k < length p → k < length q →
 unfolding xors
 getD-xors p q k l l′ = getD-zipWith xor p q k 0 0 0 l l′
 
+pub xor-swap : (a b c d : ℕ) → xor (xor a b) (xor c d) ≡ xor (xor a c) (xor b d)
+xor-swap a b c d =
+    let e : a + b + (c + d) ≡ a + c + (b + d) = omega arith in
+    sum (a + b) (c + d) ∙ ap (λ (s : ℕ). s % 2) e ∙ sym (sum (a + c) (b + d))
+  where
+    sum : (a b : ℕ) → xor (a % 2) (b % 2) ≡ (a + b) % 2
+    sum a b = omega arith
+
 pub xors-swap : (a b c d : List ℕ) → xors (xors a b) (xors c d) ≡ xors (xors a c) (xors b d)
 unfolding xors zipWith
 xors-swap [] b c d = refl
@@ -110,15 +121,22 @@ xors-swap (w ∷ a) [] [] d = refl
 xors-swap (w ∷ a) [] (y ∷ c) d = refl
 xors-swap (w ∷ a) (x ∷ b) [] d = refl
 xors-swap (w ∷ a) (x ∷ b) (y ∷ c) [] = refl
-xors-swap (w ∷ a) (x ∷ b) (y ∷ c) (z ∷ d) = ap₂ (λ (r : ℕ) (s : List ℕ). r ∷ s) (swap w x y z) (xors-swap a b c d)
-  where
-    sum : (a b : ℕ) → xor (a % 2) (b % 2) ≡ (a + b) % 2
-    sum a b = omega arith
+xors-swap (w ∷ a) (x ∷ b) (y ∷ c) (z ∷ d) = cons (xor-swap w x y z) (xors-swap a b c d)
 
-    swap : (a b c d : ℕ) → xor (xor a b) (xor c d) ≡ xor (xor a c) (xor b d)
-    swap a b c d =
-        let e : a + b + (c + d) ≡ a + c + (b + d) = omega arith in
-        sum (a + b) (c + d) ∙ ap (λ (s : ℕ). s % 2) e ∙ sym (sum (a + c) (b + d))
+pub xors-comm : (a b : List ℕ) → xors a b ≡ xors b a
+unfolding xors zipWith
+xors-comm [] [] = refl
+xors-comm [] (y ∷ b) = refl
+xors-comm (x ∷ a) [] = refl
+xors-comm (x ∷ a) (y ∷ b) =
+    let e : x + y ≡ y + x = omega arith in
+    cons (ap (λ (s : ℕ). s % 2) e) (xors-comm a b)
+
+pub xors-zeros : (n : ℕ) (r : List ℕ) → length r ≡ n → Bits r → xors r (replicate n 0) ≡ r
+unfolding xors zipWith
+xors-zeros n [] e b = refl
+xors-zeros zero (x ∷ r) e b = absurd (suc-ne-zero (length r) e)
+xors-zeros (suc n) (x ∷ r) e b = cons (omega (arith, b 0)) (xors-zeros n r (suc-inj e) (λ k. b (suc k)))
 
 -- what is added twice is not there
 pub xors-back : (a b : List ℕ) → length a ≡ length b → Bits a → Bits b → xors (xors a b) b ≡ a
@@ -126,4 +144,4 @@ unfolding xors zipWith
 xors-back [] b e p q = refl
 xors-back (x ∷ a) [] e p q = absurd (suc-ne-zero (length a) e)
 xors-back (x ∷ a) (y ∷ b) e p q =
-    ap₂ (λ (r : ℕ) (s : List ℕ). r ∷ s) (omega (arith, p 0, q 0)) (xors-back a b (suc-inj e) (λ k. p (suc k)) (λ k. q (suc k)))
+    cons (omega (arith, p 0, q 0)) (xors-back a b (suc-inj e) (λ k. p (suc k)) (λ k. q (suc k)))
