@@ -8,3 +8,4 @@ pub mod SubBlocks
 pub mod Construction
 pub mod Interleaver
 pub mod Parity
+pub mod Matching

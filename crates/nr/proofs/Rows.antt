@@ -6,10 +6,10 @@ use native.Mathlib.Omega.{arith}
 use mathlib.Core.Logic.{inl, inr}
 use mathlib.Core.Path.{_≡_, refl, sym, subst, ap, _∙_}
 use mathlib.Core.Bool.{Bool, true, false, cond, not, _&&_, _||_}
-use mathlib.Core.List.{List, [], _∷_, map}
+use mathlib.Core.List.{List, [], _∷_, _++_, map}
 use lib.Dec.{T, ltb, eqb, eqb→eq, lt→ltb, ltb→lt, T-not}
 use lib.ListN.{length, getD, drop, length-map}
-use lib.Seq.{ext-getD}
+use lib.Seq.{getD-append-add}
 use borrow.Author.Tests.{eqb-false, ne-eqb, eq-eqb}
 use Rattle.nr.specs.Rows.{count, has, keep, first, place, entries, same}
 use Rattle.nr.proofs.Tests.{all, distinct, ascending, left, right, pair, is, isn't, off, holds, here, there, cases, all-has, all-from}
@@ -39,6 +39,12 @@ module _ {B : Type 0} (h : ℕ → B) where
   getD-table k i z l =
       getD-map h (count 0 k) i 0 z (subst (λ (m : ℕ). i < m) (sym (length-count 0 k)) l)
       ∙ ap h (getD-count 0 k i 0 l ∙ omega arith)
+
+-- the second of two joined rows
+pub getD-behind : {A : Type 0} (a b : List A) (m i : ℕ) (z : A) → length a ≡ m → m ≤ i → getD (a ++ b) i z ≡ getD b (i - m) z
+getD-behind a b m i z e l =
+    let q : i ≡ length a + (i - m) = omega arith in
+    ap (λ (j : ℕ). getD (a ++ b) j z) q ∙ getD-append-add a b (i - m) z
 
 pub length-entries : (places row : List ℕ) → length (entries places row) ≡ length places
 length-entries places row = length-map places (λ i. getD row i 0)
