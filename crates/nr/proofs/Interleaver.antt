@@ -13,7 +13,7 @@ use Rattle.nr.specs.Parity.{generator, divide, remainder}
 use Rattle.nr.specs.Interleaver.{interleaver, pattern, interleave, deinterleave}
 use Rattle.nr.proofs.Tests.{all, distinct, left, right, pair, off, here, there, all-has, all-count}
 use Rattle.nr.proofs.Rows.{kept, keeps, distinct-keep, mapped, source, members, keep-all, ranged, length-count, place-has, length-table, getD-table, length-entries, getD-entries}
-use Rattle.nr.proofs.Zip.{Bits}
+use Rattle.nr.proofs.Zip.{Bits, bits-entries}
 
 -- ---- a permutation
 
@@ -104,12 +104,7 @@ length-interleave c h = length-entries (pattern (length c)) c ∙ permutes (leng
 
 pub bits-interleave : (c : List ℕ) → Bits c → Bits (interleave c)
 unfolding interleave
-bits-interleave c b = go (pattern (length c))
-  where
-    go : (places : List ℕ) → Bits (entries places c)
-    go [] k = omega arith
-    go (i ∷ is) zero = b i
-    go (i ∷ is) (suc k) = go is k
+bits-interleave c b = bits-entries (pattern (length c)) c b
 
 pub deinterleave-interleave : (c : List ℕ) → length c ≤ 164 → deinterleave (interleave c) ≡ c
 unfolding interleave deinterleave

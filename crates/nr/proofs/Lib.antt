@@ -9,3 +9,6 @@ pub mod Construction
 pub mod Interleaver
 pub mod Parity
 pub mod Matching
+pub mod Scrambling
+pub mod RoundTrip
+pub mod Demand3

@@ -21,7 +21,7 @@ use Rattle.nr.specs.RateMatching.{subBlocks, selected, select}
 use Rattle.nr.specs.SuccessiveDecoder.{negateIf, plus, addUp, gather, codeRow}
 use Rattle.nr.proofs.Tests.{holds, is, clash}
 use Rattle.nr.proofs.Rows.{length-table, getD-table, length-entries, getD-entries, getD-behind}
-use Rattle.nr.proofs.Zip.{Bits}
+use Rattle.nr.proofs.Zip.{Bits, bits-entries}
 use Rattle.nr.proofs.Transform.{Each, transform-zero}
 use Rattle.nr.proofs.SuccessiveDecoder.{Sign, Soft, Clean}
 use Rattle.nr.proofs.SubBlocks.{rank, rank-lt, J-rank, place-J, found, finds, shortened-up}
@@ -74,13 +74,16 @@ module _ (N : ℕ) (pos-N : 0 < N) (bit : ℕ → ℕ) where
 
 -- ---- the sent bits
 
-module _ (k E : ℕ) (d : List ℕ) where
-  pub length-select : (kind : RateMatching) → length (select kind (2 ^ (k + 5)) E d) ≡ E
+module _ (kind : RateMatching) (N E : ℕ) (d : List ℕ) where
+  pub length-select : length (select kind N E d) ≡ E
   unfolding select
-  length-select kind =
-      length-entries (map (selected kind (2 ^ (k + 5)) E) (count 0 E)) (subBlocks (2 ^ (k + 5)) d)
-      ∙ length-table (selected kind (2 ^ (k + 5)) E) 0 E
+  length-select = length-entries (map (selected kind N E) (count 0 E)) (subBlocks N d) ∙ length-table (selected kind N E) 0 E
 
+  pub bits-select : Bits d → Bits (select kind N E d)
+  unfolding select subBlocks
+  bits-select b = bits-entries (map (selected kind N E) (count 0 E)) (subBlocks N d) (bits-entries (map (J N) (count 0 N)) d b)
+
+module _ (k E : ℕ) (d : List ℕ) where
   -- the code bit with the place i in sub-block order
   abbrev bitAt : ℕ → ℕ
   bitAt i = getD d (J (2 ^ (k + 5)) i) 0

@@ -258,6 +258,11 @@ module _ (payload : List ℕ) (bits : Bits payload) where
       bits-end : Bits end
       bits-end = bits-append (replicate m 0) (divide m row) (bits-replicate m 0 (omega arith)) (subst Bits (sym (parity-is payload)) bits-parity)
 
+-- the payload stands in front of what is attached to it
+pub attach-front : (A : ℕ) (payload : List ℕ) → length payload ≡ A → take A (attach payload) ≡ payload
+unfolding attach
+attach-front A payload e = take-at payload (parity payload) A e
+
 -- ---- the check
 
 -- it accepts what was attached

@@ -7,7 +7,7 @@ use mathlib.Core.Path.{_≡_, refl, sym, ap, ap₂, _∙_}
 use mathlib.Core.List.{List, [], _∷_, _++_, zipWith}
 use lib.ListN.{length, getD, take, drop, replicate}
 use lib.Seq.{ext-getD}
-use Rattle.nr.specs.Rows.{bit, msbFirst, xor, xors}
+use Rattle.nr.specs.Rows.{entries, bit, msbFirst, xor, xors}
 
 module _ {A B C : Type 0} (h : A → B → C) where
   pub length-zipWith : (a : List A) (b : List B) (n : ℕ) → length a ≡ n → length b ≡ n → length (zipWith h a b) ≡ n
@@ -91,6 +91,11 @@ pub bits-msbFirst : (k x : ℕ) → Bits (msbFirst k x)
 bits-msbFirst zero x i = omega arith
 bits-msbFirst (suc k) x zero = omega arith
 bits-msbFirst (suc k) x (suc i) = bits-msbFirst k x i
+
+pub bits-entries : (places row : List ℕ) → Bits row → Bits (entries places row)
+bits-entries [] row b k = omega arith
+bits-entries (i ∷ is) row b zero = b i
+bits-entries (i ∷ is) row b (suc k) = bits-entries is row b k
 
 pub length-msbFirst : (k x : ℕ) → length (msbFirst k x) ≡ k
 length-msbFirst zero x = refl

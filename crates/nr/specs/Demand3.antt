@@ -29,7 +29,15 @@ pub record Noiseless (s : Numbers) (sent : List ℕ) (soft : List ℤ) : Type 0 
   pub negative : (k : ℕ) → k < s .e → getD sent k 0 ≡ 1 → getD soft k (pos 0) <ℤ pos 0
 
 -- Of the RNTI and n_ID nothing is asked. `out` is the output buffer before coding, `out′` that before decoding.
-pub record Demand3 (s : Numbers) (payload out : List ℕ) : Type 0 where
-  pub codes : coding s payload out .number ≡ 0
-  pub decodes : (soft : List ℤ) (out′ : List ℕ) → Noiseless s (coding s payload out .buffer) soft → length out′ ≡ s .a
+pub record Demand3 : Type 0 where
+  pub codes : (s : Numbers) (payload out : List ℕ) → Accepted s → Payload s payload → length out ≡ s .e
+      → coding s payload out .number ≡ 0
+  pub decodes : (s : Numbers) (payload out : List ℕ) → Accepted s → Payload s payload → length out ≡ s .e
+      → (soft : List ℤ) (out′ : List ℕ) → Noiseless s (coding s payload out .buffer) soft → length out′ ≡ s .a
       → decoding s soft out′ ≡ record { number = 0; place = 0; buffer = payload }
+
+-- The hypotheses can be met: under all accepted numbers there is a payload, and for each payload a noiseless row.
+pub record HypothesesMet : Type 0 where
+  pub payload : (s : Numbers) → Accepted s → (payload : List ℕ) × Payload s payload
+  pub row : (s : Numbers) (payload out : List ℕ) → Accepted s → Payload s payload → length out ≡ s .e
+      → (soft : List ℤ) × Noiseless s (coding s payload out .buffer) soft

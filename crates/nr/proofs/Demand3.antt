@@ -1,0 +1,184 @@
+-- Demand 3, whole, over `coding` and `decoding`; and that its hypotheses can be met.
+-- Assumes nothing.
+use Prim.Native.Nat.{ℕ, zero, suc, _+_, _-_, _*_, _^_, _≤_, _<_}
+use native.Mathlib.Nat.{suc-ne-zero, not-suc-le-zero, le-of-suc-le-suc, lt-of-not-le}
+use native.Mathlib.Decide.{decLe}
+use native.Mathlib.Omega.{arith}
+use mathlib.Core.Path.{_≡_, refl, sym, subst, ap, ap₂, _∙_}
+use mathlib.Core.Bool.{Bool, true, false, cond, not, _||_}
+use mathlib.Core.List.{List, [], _∷_, map}
+use lib.Dec.{T, ltb, eqb, leb, lt→ltb, ltb→lt}
+use lib.IntN.{ℤ, pos, negsuc, natAbs}
+use lib.Signed.{_<ℤ_, ltZ-yes, <ℤ-irrefl}
+use lib.ListN.{length, getD, take, length-map, replicate, length-replicate, List·getD-eq-default}
+use lib.Seq.{take-at}
+use borrow.Author.Tests.{le-ltb, lt-ltb, eq-eqb, leb-true, leb-false}
+use Rattle.nr.specs.declared.Numbers.{Numbers}
+use Rattle.nr.specs.declared.RateMatching.{RateMatching}
+use Rattle.nr.specs.declared.RateMatching.the-variants.{Repetition, Puncturing, Shortening}
+use Rattle.nr.specs.Rows.{has, first}
+use Rattle.nr.specs.Numbers.{K, lengths}
+use Rattle.nr.specs.Answer.{refusal, refusalOf, Outcome, outcome}
+use Rattle.nr.specs.Parity.{attach, parityMatches}
+use Rattle.nr.specs.Construction.{n, N, rateMatching, front, unsent, barred, Layout, layout}
+use Rattle.nr.specs.RateMatching.{select}
+use Rattle.nr.specs.Scrambling.{gold}
+use Rattle.nr.specs.Coding.{codeWord, coded, badByte, coding}
+use Rattle.nr.specs.Decoding.{received, orParity, badSoft, decoding}
+use Rattle.nr.specs.Demand3.{Accepted, Payload, Noiseless, Demand3, HypothesesMet}
+use Rattle.nr.proofs.Tests.{is, nor-right}
+use Rattle.nr.proofs.Rows.{first-none, getD-map}
+use Rattle.nr.proofs.Zip.{Bits, bits-replicate, bits-xors, length-xors}
+use Rattle.nr.proofs.Parity.{accepts, attach-front}
+use Rattle.nr.proofs.SuccessiveDecoder.{Sign}
+use Rattle.nr.proofs.Construction.{Clear, clear, Sized, accepted, Positions, positions}
+use Rattle.nr.proofs.Matching.{Fits, length-select}
+use Rattle.nr.proofs.Scrambling.{length-gold}
+use Rattle.nr.proofs.RoundTrip.{Sound, round-trip}
+
+-- ---- document 01's layout is sound
+
+fits : (K E : ℕ) → Fits (rateMatching K E) (N K E) E
+unfolding rateMatching
+fits K E = go (leb (N K E) E) refl (leb (16 * K) (7 * E))
+  where
+    go : (a : Bool) → leb (N K E) E ≡ a → (b : Bool) → Fits (cond a Repetition (cond b Puncturing Shortening)) (N K E) E
+    go true e b = leb-true (N K E) E e
+    go false e true = leb-false (N K E) E e
+    go false e false = leb-false (N K E) E e
+
+large : (K E : ℕ) → 5 ≤ n K E
+unfolding n
+large K E = omega arith
+
+pub sound : (K E : ℕ) → Sized K E → Sound (layout K E) E
+unfolding layout barred
+sound K E c =
+    let p = positions K E c in
+    record {
+      large = large K E;
+      fits = fits K E;
+      few = omega (arith, p .size, c .high);
+      rising = p .rising;
+      below = p .below;
+      sent = λ q h. nor-right (ltb q (front (rateMatching K E) (N K E) E)) (has q (unsent (rateMatching K E) (N K E) E)) (p .unbarred q h);
+    }
+
+-- ---- none of 1 to 6 applies
+
+unrefused : (A E given asked room wanted bad : ℕ) → refusal A E ≡ 0 → given ≡ asked → room ≡ wanted → bad ≡ given
+    → refusalOf A E given asked room wanted bad ≡ 0
+unfolding refusalOf
+unrefused A E given asked room wanted bad r e e′ e″ =
+    let c = clear A E r in
+    rw (c .size, c .length, c .room, eq-eqb given asked e, eq-eqb room wanted e′, le-ltb bad given (omega arith))
+
+-- ---- coding
+
+module _ (s : Numbers) (payload : List ℕ) (a : Accepted s) (p : Payload s payload) where
+  abbrev l : Layout
+  l = layout (K (s .a)) (s .e)
+
+  abbrev sent : List ℕ
+  sent = coded l (s .e) (s .rnti) (s .«n_id») payload
+
+  bits : Bits payload
+  bits k = elim (decLe (s .a) k) [
+    | yes h ↦ rw (List·getD-eq-default payload 0 {n = k} (omega (arith, p .size))) (omega arith)
+    | no h ↦ p .bits k (lt-of-not-le h)
+  ]
+
+  bits-sent : Bits sent
+  unfolding coded
+  bits-sent = bits-xors (select (l .kind) (2 ^ l .n) (s .e) (codeWord l (s .rnti) payload)) (gold (s .«n_id») (s .e))
+
+  length-sent : length sent ≡ s .e
+  unfolding coded
+  length-sent =
+      length-xors (s .e) (select (l .kind) (2 ^ l .n) (s .e) (codeWord l (s .rnti) payload)) (gold (s .«n_id») (s .e))
+      (length-select (l .kind) (2 ^ l .n) (s .e) (codeWord l (s .rnti) payload)) (length-gold (s .«n_id») (s .e))
+
+  coding-is : (out : List ℕ) → length out ≡ s .e → coding s payload out ≡ record { number = 0; place = 0; buffer = sent }
+  unfolding coding outcome badByte
+  coding-is out e =
+      ap (λ (i : ℕ). outcome i (badByte payload) sent out)
+      (unrefused (s .a) (s .e) (length payload) (s .a) (length out) (s .e) (badByte payload) a (p .size) e
+      (first-none (ltb 1) payload 0 (λ k h. le-ltb 1 (getD payload k 0) (bits k))))
+
+  -- ---- decoding
+
+  module _ (soft : List ℤ) (out′ : List ℕ) (clean : Noiseless s sent soft) (e : length out′ ≡ s .a) where
+    signs : (j : ℕ) → j < s .e → Sign (getD soft j (pos 0)) (getD sent j 0)
+    signs j h = sign (getD soft j (pos 0)) (getD sent j 0) (bits-sent j) (clean .positive j h) (clean .negative j h)
+      where
+        sign : (x : ℤ) (d : ℕ) → d ≤ 1 → (d ≡ 0 → pos 0 <ℤ x) → (d ≡ 1 → x <ℤ pos 0) → Sign x d
+        sign (pos zero) zero h p m = absurd (<ℤ-irrefl (p refl))
+        sign (pos (suc x)) zero h p m = Sign.plus
+        sign (negsuc x) zero h p m = absurd (p refl .lt)
+        sign (pos x) (suc zero) h p m = absurd (not-suc-le-zero (ltb→lt x 0 (m refl .lt)))
+        sign (negsuc x) (suc zero) h p m = Sign.minus
+        sign x (suc (suc d)) h p m = absurd (not-suc-le-zero (le-of-suc-le-suc h))
+
+    received-is : received l (s .e) (s .rnti) (s .«n_id») soft ≡ attach payload
+    unfolding layout
+    received-is =
+        round-trip l (s .e) (s .rnti) (s .«n_id») (sound (K (s .a)) (s .e) c) payload bits
+        (ap (λ (k : ℕ). k + 24) (p .size) ∙ sym (positions (K (s .a)) (s .e) c .size)) soft (clean .size) signs
+      where
+        c : Sized (K (s .a)) (s .e)
+        c = accepted (s .a) (s .e) a
+
+    decoding-is : decoding s soft out′ ≡ record { number = 0; place = 0; buffer = payload }
+    unfolding decoding outcome orParity badSoft
+    decoding-is =
+        let A : ℕ = s .a in
+        ap₂ (λ (i : ℕ) (b : List ℕ). outcome (orParity i A b) (badSoft soft) (take A b) out′) unbad received-is
+        ∙ ap (λ (t : Bool). outcome (cond t 0 7) (badSoft soft) (take A (attach payload)) out′) (is (parityMatches A (attach payload)) (accepts A payload (p .size)))
+        ∙ ap (λ (r : List ℕ). outcome 0 (badSoft soft) r out′) (attach-front A payload (p .size))
+      where
+        unbad : refusalOf (s .a) (s .e) (length soft) (s .e) (length out′) (s .a) (badSoft soft) ≡ 0
+        unbad =
+            unrefused (s .a) (s .e) (length soft) (s .e) (length out′) (s .a) (badSoft soft) a (clean .size) e
+            (first-none (λ x. ltb 127 (natAbs x)) soft (pos 0) (λ k h. le-ltb 127 (natAbs (getD soft k (pos 0))) (clean .range k (subst (λ (m : ℕ). k < m) (clean .size) h))))
+
+pub demand3 : Demand3
+demand3 = record {
+  codes = λ s payload out a p e. ap (λ (o : Outcome). o .number) (coding-is s payload a p out e);
+  decodes = λ s payload out a p e soft out′ clean e′.
+      decoding-is s payload a p soft out′
+      (subst (λ (o : Outcome). Noiseless s (o .buffer) soft) (coding-is s payload a p out e) clean) e′;
+}
+
+-- ---- the hypotheses can be met
+
+-- the strongest noiseless value of a sent bit
+strongest : ℕ → ℤ
+strongest zero = pos 127
+strongest (suc b) = negsuc 126
+
+strongest-row : (s : Numbers) (sent : List ℕ) → length sent ≡ s .e → Noiseless s sent (map strongest sent)
+unfolding strongest
+strongest-row s sent e = record {
+  size = length-map sent strongest ∙ e;
+  range = λ k h. rw (value k h) (range (getD sent k 0));
+  positive = λ k h z. rw (value k h, z) (ltZ-yes tt);
+  negative = λ k h z. rw (value k h, z) (ltZ-yes tt);
+}
+  where
+    value : (k : ℕ) → k < s .e → getD (map strongest sent) k (pos 0) ≡ strongest (getD sent k 0)
+    value k h = getD-map strongest sent k 0 (pos 0) (omega arith)
+
+    range : (b : ℕ) → natAbs (strongest b) ≤ 127
+    range zero = omega arith
+    range (suc b) = omega arith
+
+pub hypotheses-met : HypothesesMet
+hypotheses-met = record {
+  payload = λ s a. (replicate (s .a) 0, record {
+    size = length-replicate (s .a) 0;
+    bits = λ k h. bits-replicate (s .a) 0 (omega arith) k;
+  });
+  row = λ s payload out a p e.
+      let sent : List ℕ = coding s payload out .buffer in
+      (map strongest sent, strongest-row s sent (ap (λ (o : Outcome). length (o .buffer)) (coding-is s payload a p out e) ∙ length-sent s payload a p));
+}
