@@ -12,3 +12,4 @@ pub mod Matching
 pub mod Scrambling
 pub mod RoundTrip
 pub mod Demand3
+pub mod Kronecker

@@ -1,7 +1,7 @@
 -- The Gold sequence: E bits, which the registers make by the recurrences of 38.211 5.2.1.
 -- Assumes nothing.
 use Prim.Native.Nat.{ℕ, zero, suc, _+_, _-_, _*_, _/_, _%_, _^_, _≤_, _<_}
-use native.Mathlib.Nat.{pow-suc, not-suc-le-zero, le-of-suc-le-suc, div-eq-of-lt, add-mul-div-right, mul-assoc, suc-add}
+use native.Mathlib.Nat.{pow-suc, not-suc-le-zero, le-of-suc-le-suc, div-eq-of-lt, add-mul-div-right, mul-assoc, mul-comm, pow-succ', suc-add}
 use native.Mathlib.Omega.{arith}
 use mathlib.Core.Path.{_≡_, refl, sym, subst, ap, ap₂, _∙_}
 use mathlib.Core.List.{List, [], _∷_}
@@ -31,3 +31,131 @@ length-gold start E = length-terms E (after step1 1600 1) (after step2 1600 star
 pub bits-gold : (start E : ℕ) → Bits (gold start E)
 unfolding gold
 bits-gold start E = bits-terms E (after step1 1600 1) (after step2 1600 start)
+
+-- ---- a register makes the terms of its sequence one after the other
+
+shift-bit : (next s j : ℕ) → j < 30 → bit j (shift next s) ≡ bit (suc j) s
+shift-bit next s j h =
+    let i : ℕ = 29 - j in
+    let split : 2 ^ 30 ≡ 2 ^ suc i * 2 ^ j = ap (λ (y : ℕ). 2 ^ y) (whole h) ∙ pow-add 2 (suc i) j in
+    let out : (s / 2 + next * 2 ^ 30) / 2 ^ j ≡ s / 2 / 2 ^ j + next * 2 ^ suc i =
+    ap (λ (y : ℕ). (s / 2 + y) / 2 ^ j) (ap (λ (y : ℕ). next * y) split ∙ sym (mul-assoc next (2 ^ suc i) (2 ^ j)))
+    ∙ add-mul-div-right (s / 2) (next * 2 ^ suc i) (pow-pos j) in
+    let even : next * 2 ^ suc i ≡ next * 2 ^ i * 2 = ap (λ (y : ℕ). next * y) (pow-succ' 2 i ∙ mul-comm 2 (2 ^ i)) ∙ sym (mul-assoc next (2 ^ i) 2) in
+    ap (λ (y : ℕ). y % 2) (out ∙ ap (λ (y : ℕ). s / 2 / 2 ^ j + y) even)
+    ∙ omega arith
+    ∙ ap (λ (y : ℕ). y % 2) (shr-shr s 1 j ∙ ap (λ (y : ℕ). s / 2 ^ y) (one j))
+  where
+    whole : {j : ℕ} → j < 30 → 30 ≡ suc (29 - j) + j
+    whole h = omega arith
+
+    one : (j : ℕ) → 1 + j ≡ suc j
+    one j = omega arith
+
+shift-top : (next s : ℕ) → next ≤ 1 → s < 2 ^ 31 → bit 30 (shift next s) ≡ next
+shift-top next s h l =
+    ap (λ (y : ℕ). y % 2) (add-mul-div-right (s / 2) next (pow-pos 30) ∙ ap (λ (y : ℕ). y + next) (div-eq-of-lt {m = 2 ^ 30} (omega arith)))
+    ∙ omega arith
+
+-- a register whose next term is `feed` of what it holds
+module _ (feed : ℕ → ℕ) (feed-bit : (s : ℕ) → feed s ≤ 1) where
+  abbrev step : ℕ → ℕ
+  step s = shift (feed s) s
+
+  -- x(i), of the sequence that starts with the bits of s
+  abbrev x : ℕ → ℕ → ℕ
+  x s i = bit 0 (after step i s)
+
+  after-suc : (i s : ℕ) → step (after step i s) ≡ after step (suc i) s
+  unfolding after
+  after-suc zero s = refl
+  after-suc (suc i) s = after-suc i (step s)
+
+  after-lt : (i s : ℕ) → s < 2 ^ 31 → after step i s < 2 ^ 31
+  unfolding after
+  after-lt zero s h = h
+  after-lt (suc i) s h = after-lt i (step s) (omega (arith, feed-bit s))
+
+  -- bit j is the term j on
+  window : (j i s : ℕ) → j ≤ 30 → bit j (after step i s) ≡ x s (i + j)
+  window zero i s h = let e : i ≡ i + 0 = omega arith in ap (x s) e
+  window (suc j) i s h =
+      let e : suc i + j ≡ i + suc j = omega arith in
+      sym (shift-bit (feed (after step i s)) (after step i s) j h)
+      ∙ ap (bit j) (after-suc i s) ∙ window j (suc i) s (omega arith) ∙ ap (x s) e
+
+  pub first-terms : (s j : ℕ) → j ≤ 30 → x s j ≡ bit j s
+  unfolding after
+  first-terms s j h = let e : 0 + j ≡ j = omega arith in sym (window j 0 s h ∙ ap (x s) e)
+
+  pub next-term : (s i : ℕ) → s < 2 ^ 31 → x s (i + 31) ≡ feed (after step i s)
+  next-term s i h =
+      let e : suc i + 30 ≡ i + 31 = omega arith in
+      sym (window 30 (suc i) s (omega arith) ∙ ap (x s) e) ∙ ap (bit 30) (sym (after-suc i s))
+      ∙ shift-top (feed (after step i s)) (after step i s) (feed-bit (after step i s)) (after-lt i s h)
+
+-- ---- the two sequences of 38.211 5.2.1
+
+-- the terms of the sequence that starts with the bits of s, lowest first
+abbrev pub x1 : ℕ → ℕ → ℕ
+x1 s i = bit 0 (after step1 i s)
+
+abbrev pub x2 : ℕ → ℕ → ℕ
+x2 s i = bit 0 (after step2 i s)
+
+abbrev feed1 : ℕ → ℕ
+feed1 s = (bit 3 s + bit 0 s) % 2
+
+abbrev feed2 : ℕ → ℕ
+feed2 s = (bit 3 s + bit 2 s + bit 1 s + bit 0 s) % 2
+
+feed1-bit : (s : ℕ) → feed1 s ≤ 1
+feed1-bit s = omega arith
+
+feed2-bit : (s : ℕ) → feed2 s ≤ 1
+feed2-bit s = omega arith
+
+pub x1-starts : (s j : ℕ) → j ≤ 30 → x1 s j ≡ bit j s
+unfolding step1
+x1-starts = first-terms feed1 feed1-bit
+
+pub x2-starts : (s j : ℕ) → j ≤ 30 → x2 s j ≡ bit j s
+unfolding step2
+x2-starts = first-terms feed2 feed2-bit
+
+pub x1-recurs : (s i : ℕ) → s < 2 ^ 31 → x1 s (i + 31) ≡ (x1 s (i + 3) + x1 s i) % 2
+unfolding step1
+x1-recurs s i h =
+    next-term feed1 feed1-bit s i h
+    ∙ ap (λ (a : ℕ). (a + x1 s i) % 2) (window feed1 feed1-bit 3 i s (omega arith))
+
+pub x2-recurs : (s i : ℕ) → s < 2 ^ 31 → x2 s (i + 31) ≡ (x2 s (i + 3) + x2 s (i + 2) + x2 s (i + 1) + x2 s i) % 2
+unfolding step2
+x2-recurs s i h =
+    next-term feed2 feed2-bit s i h
+    ∙ ap₃ (λ (a b c : ℕ). (a + b + c + x2 s i) % 2) (at 3 (omega arith)) (at 2 (omega arith)) (at 1 (omega arith))
+  where
+    at : (j : ℕ) → j ≤ 30 → bit j (after step2 i s) ≡ x2 s (i + j)
+    at j l = window feed2 feed2-bit j i s l
+
+    ap₃ : (f : ℕ → ℕ → ℕ → ℕ) {a a′ b b′ c c′ : ℕ} → a ≡ a′ → b ≡ b′ → c ≡ c′ → f a b c ≡ f a′ b′ c′
+    ap₃ f p q r = ap₂ (λ (g : ℕ → ℕ) (c : ℕ). g c) (ap₂ f p q) r
+
+-- ---- c(k) = x1(k + 1600) + x2(k + 1600)
+
+after-after : (step : ℕ → ℕ) (m k s : ℕ) → after step k (after step m s) ≡ after step (m + k) s
+unfolding after
+after-after step zero k s = let e : k ≡ 0 + k = omega arith in ap (λ (i : ℕ). after step i s) e
+after-after step (suc m) k s = after-after step m k (step s) ∙ ap (λ (i : ℕ). after step i s) (sym (suc-add m k))
+
+terms-at : (E s1 s2 k : ℕ) → k < E → getD (terms E s1 s2) k 0 ≡ (x1 s1 k + x2 s2 k) % 2
+unfolding terms after
+terms-at zero s1 s2 k h = absurd (not-suc-le-zero h)
+terms-at (suc E) s1 s2 zero h = refl
+terms-at (suc E) s1 s2 (suc k) h = terms-at E (step1 s1) (step2 s2) k (le-of-suc-le-suc h)
+
+pub gold-at : (start E k : ℕ) → k < E → getD (gold start E) k 0 ≡ (x1 1 (1600 + k) + x2 start (1600 + k)) % 2
+unfolding gold
+gold-at start E k h =
+    terms-at E (after step1 1600 1) (after step2 1600 start) k h
+    ∙ ap₂ (λ (a b : ℕ). (bit 0 a + bit 0 b) % 2) (after-after step1 1600 k 1) (after-after step2 1600 k start)
