@@ -79,12 +79,6 @@ n-test = tt
 pub n-by-length : (K E : ℕ) → Sized K E → n K E ≡ exponent E
 n-by-length K E c = eqb→eq (n K E) (exponent E) (at (λ B F. eqb (n B F) (exponent F)) n-test K E c)
 
--- what the kind says of E and N
-pub Fits : RateMatching → ℕ → ℕ → Type 0
-Fits Repetition N E = N ≤ E
-Fits Puncturing N E = E < N
-Fits Shortening N E = E < N
-
 -- ---- room for K positions
 
 -- how many positions are not barred
@@ -98,7 +92,7 @@ least Puncturing E = 2 ^ exponent E - (3 * 2 ^ exponent E - 2 * E + 3) / 4
 least Shortening E = min E (2 ^ exponent E)
 
 room-test : (kind : RateMatching) → T (all (λ E. leb (least kind E) (room kind E)) lengths)
-unfolding log2up P J unsent front free reliability
+unfolding log2up P J unsent front barred free reliability
 room-test Repetition = tt
 room-test Puncturing = tt
 room-test Shortening = tt
@@ -121,14 +115,14 @@ pub record Positions (K E : ℕ) : Type 0 where
   pub size : length (layout K E .positions) ≡ K
   pub rising : T (ascending (layout K E .positions))
   pub below : (p : ℕ) → T (has p (layout K E .positions)) → p < N K E
-  pub unbarred : (p : ℕ) → T (has p (layout K E .positions)) → T (not (barred (rateMatching K E) (N K E) E p))
+  pub unbarred : (p : ℕ) → T (has p (layout K E .positions)) → T (not (has p (barred (rateMatching K E) (N K E) E)))
 
 once : T (distinct reliability)
 unfolding reliability
 once = tt
 
 pub positions : (K E : ℕ) → Sized K E → Positions K E
-unfolding layout chosen free barred
+unfolding layout chosen free
 positions K E c = record {
   size =
       members 0 (N K E) best (λ p h. let l : p < N K E = low p h in omega arith)
@@ -136,14 +130,14 @@ positions K E c = record {
       ∙ simp length-drop (let h = enough K E c in omega arith);
   rising = ascends (λ p. has p best) 0 (N K E);
   below = λ p h. low p (kept (λ q. has q best) (count 0 (N K E)) p h .1);
-  unbarred = λ p h. right (ltb p (N K E)) (not (barred kind (N K E) E p)) (passes p (kept (λ q. has q best) (count 0 (N K E)) p h .1));
+  unbarred = λ p h. right (ltb p (N K E)) (not (has p (barred kind (N K E) E))) (passes p (kept (λ q. has q best) (count 0 (N K E)) p h .1));
 }
   where
     kind : RateMatching
     kind = rateMatching K E
 
     usable : ℕ → Bool
-    usable p = ltb p (N K E) && not (barred kind (N K E) E p)
+    usable p = ltb p (N K E) && not (has p (barred kind (N K E) E))
 
     able : List ℕ
     able = free kind (N K E) E
@@ -155,4 +149,4 @@ positions K E c = record {
     passes p h = kept usable reliability p (dropped (length able - K) able p h) .1
 
     low : (p : ℕ) → T (has p best) → p < N K E
-    low p h = ltb→lt p (N K E) (left (ltb p (N K E)) (not (barred kind (N K E) E p)) (passes p h))
+    low p h = ltb→lt p (N K E) (left (ltb p (N K E)) (not (has p (barred kind (N K E) E))) (passes p h))

@@ -16,7 +16,7 @@ use borrow.Author.Tests.{le-ltb, lt-ltb, eq-eqb, leb-true, leb-false}
 use Rattle.nr.specs.declared.Numbers.{Numbers}
 use Rattle.nr.specs.declared.RateMatching.{RateMatching}
 use Rattle.nr.specs.declared.RateMatching.the-variants.{Repetition, Puncturing, Shortening}
-use Rattle.nr.specs.Rows.{has, first}
+use Rattle.nr.specs.Rows.{count, has}
 use Rattle.nr.specs.Numbers.{K, lengths}
 use Rattle.nr.specs.Answer.{refusal, refusalOf, Outcome, outcome}
 use Rattle.nr.specs.Parity.{attach, parityMatches}
@@ -26,8 +26,8 @@ use Rattle.nr.specs.Scrambling.{gold}
 use Rattle.nr.specs.Coding.{codeWord, coded, badByte, coding}
 use Rattle.nr.specs.Decoding.{received, orParity, badSoft, decoding}
 use Rattle.nr.specs.Demand3.{Accepted, Payload, Noiseless, Demand3, HypothesesMet}
-use Rattle.nr.proofs.Tests.{is, nor-right}
-use Rattle.nr.proofs.Rows.{first-none, getD-map}
+use Rattle.nr.proofs.Tests.{is}
+use Rattle.nr.proofs.Rows.{first-none, getD-map, not-has-left}
 use Rattle.nr.proofs.Zip.{Bits, bits-replicate, bits-xors, length-xors}
 use Rattle.nr.proofs.Parity.{accepts, attach-front}
 use Rattle.nr.proofs.SuccessiveDecoder.{Sign}
@@ -61,7 +61,7 @@ sound K E c =
       few = omega (arith, p .size, c .high);
       rising = p .rising;
       below = p .below;
-      sent = λ q h. nor-right (ltb q (front (rateMatching K E) (N K E) E)) (has q (unsent (rateMatching K E) (N K E) E)) (p .unbarred q h);
+      sent = λ q h. not-has-left q (unsent (rateMatching K E) (N K E) E) (count 0 (front (rateMatching K E) (N K E) E)) (p .unbarred q h);
     }
 
 -- ---- none of 1 to 6 applies
@@ -174,10 +174,13 @@ strongest-row s sent e = record {
 
 pub hypotheses-met : HypothesesMet
 hypotheses-met = record {
-  payload = λ s a. (replicate (s .a) 0, record {
-    size = length-replicate (s .a) 0;
-    bits = λ k h. bits-replicate (s .a) 0 (omega arith) k;
-  });
+  payload = λ s a. (
+    replicate (s .a) 0,
+    record {
+      size = length-replicate (s .a) 0;
+      bits = λ k h. bits-replicate (s .a) 0 (omega arith) k;
+    },
+  );
   row = λ s payload out a p e.
       let sent : List ℕ = coding s payload out .buffer in
       (map strongest sent, strongest-row s sent (ap (λ (o : Outcome). length (o .buffer)) (coding-is s payload a p out e) ∙ length-sent s payload a p));

@@ -13,3 +13,4 @@ pub mod Scrambling
 pub mod RoundTrip
 pub mod Demand3
 pub mod Kronecker
+pub mod MarkedCases

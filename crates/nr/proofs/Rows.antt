@@ -112,6 +112,15 @@ module _ (g : ℕ → ℕ) where
     | inr u ↦ let s = source ys z u in (s .0, there (s .0) y ys (s .1), s .2)
   ]
 
+-- what is not in two joined rows is not in the first
+pub not-has-left : (x : ℕ) (a b : List ℕ) → T (not (has x (a ++ b))) → T (not (has x a))
+not-has-left x [] b t = tt
+not-has-left x (y ∷ a) b t = go (eqb x y) t (not-has-left x a b)
+  where
+    go : (c : Bool) → T (not (c || has x (a ++ b))) → (T (not (has x (a ++ b))) → T (not (has x a))) → T (not (c || has x a))
+    go true t r = absurd t
+    go false t r = r t
+
 pub ranged : (a k x : ℕ) → T (has x (count a k)) → (a ≤ x) × (x < a + k)
 ranged a zero x h = absurd h
 ranged a (suc k) x h = elim (cases x a (count (suc a) k) h) [

@@ -47,10 +47,6 @@ pub or-right : (a b : Bool) → T b → T (a || b)
 or-right true b t = tt
 or-right false b t = t
 
-pub nor-right : (a b : Bool) → T (not (a || b)) → T (not b)
-nor-right true b t = absurd t
-nor-right false b t = t
-
 pub is : (b : Bool) → T b → b ≡ true
 is true t = refl
 is false t = absurd t

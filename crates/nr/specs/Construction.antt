@@ -1,8 +1,8 @@
 -- Document 01, "Code length and positions" (38.212 5.3.1, 5.4.1).
 -- Assumes nothing.
 use Prim.Native.Nat.{ℕ, zero, suc, _+_, _-_, _*_, _/_, _%_, _^_, min, max}
-use mathlib.Core.Bool.{Bool, true, false, cond, not, _&&_, _||_}
-use mathlib.Core.List.{List, [], _∷_, map}
+use mathlib.Core.Bool.{Bool, true, false, cond, not, _&&_}
+use mathlib.Core.List.{List, [], _∷_, _++_, map}
 use lib.Dec.{leb, ltb}
 use lib.ListN.{getD}
 use Rattle.nr.specs.declared.RateMatching.{RateMatching}
@@ -63,17 +63,15 @@ front Repetition N E = 0
 front Puncturing N E = cond (leb (3 * N) (4 * E)) ((3 * N - 2 * E + 3) / 4) ((9 * N - 4 * E + 15) / 16)
 front Shortening N E = 0
 
--- document 01's barred: frozen because of rate matching
-unfoldable pub barred : RateMatching → ℕ → ℕ → ℕ → Bool
-barred kind N E p = ltb p (front kind N E) || has p (unsent kind N E)
+-- document 01's barred positions: those frozen because of rate matching
+unfoldable pub barred : RateMatching → ℕ → ℕ → List ℕ
+barred kind N E = unsent kind N E ++ count 0 (front kind N E)
 
 -- the rest of the positions below N, the least reliable first
 unfoldable pub free : RateMatching → ℕ → ℕ → List ℕ
-unfolding barred
 free kind N E =
-    let low : ℕ = front kind N E in
-    let never : List ℕ = unsent kind N E in
-    keep (λ p. ltb p N && not (ltb p low || has p never)) reliability
+    let bars : List ℕ = barred kind N E in
+    keep (λ p. ltb p N && not (has p bars)) reliability
 
 -- document 01's chosen positions, the information positions: the K most reliable of the rest, ascending
 unfoldable pub chosen : RateMatching → ℕ → ℕ → ℕ → List ℕ
