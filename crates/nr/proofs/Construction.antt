@@ -14,7 +14,7 @@ use Rattle.nr.specs.Rows.{count, keep, has}
 use Rattle.nr.specs.Numbers.{K, lengths}
 use Rattle.nr.specs.Answer.{refusal}
 use Rattle.nr.specs.Reliability.{reliability}
-use Rattle.nr.specs.Construction.{log2up, n1, n2, n, N, rateMatching, P, J, unsent, front, barred, free, chosen, layout}
+use Rattle.nr.specs.Construction.{log2up, n1, n2, n, N, lowRate, rateMatching, P, J, unsent, front, barred, free, chosen, layout}
 use Rattle.nr.proofs.Tests.{all, distinct, ascending, left, right, holds, all-has, all-count}
 use Rattle.nr.proofs.Rows.{kept, distinct-keep, dropped, distinct-drop, members, ascends}
 
@@ -98,7 +98,7 @@ room-test Puncturing = tt
 room-test Shortening = tt
 
 least-test : T (everyPair (λ K E. leb K (least (rateMatching K E) E)))
-unfolding log2up n1 n2 n rateMatching
+unfolding log2up n1 n2 n lowRate rateMatching
 least-test = tt
 
 enough : (K E : ℕ) → Sized K E → K ≤ length (free (rateMatching K E) (N K E) E)
@@ -112,8 +112,8 @@ enough K E c =
 -- ---- the information positions
 
 pub record Positions (K E : ℕ) : Type 0 where
-  pub size : length (layout K E .positions) ≡ K
   pub rising : T (ascending (layout K E .positions))
+  pub size : length (layout K E .positions) ≡ K
   pub below : (p : ℕ) → T (has p (layout K E .positions)) → p < N K E
   pub unbarred : (p : ℕ) → T (has p (layout K E .positions)) → T (not (has p (barred (rateMatching K E) (N K E) E)))
 
@@ -124,11 +124,11 @@ once = tt
 pub positions : (K E : ℕ) → Sized K E → Positions K E
 unfolding layout chosen free
 positions K E c = record {
+  rising = ascends (λ p. has p best) 0 (N K E);
   size =
       members 0 (N K E) best (λ p h. let l : p < N K E = low p h in omega arith)
       (distinct-drop (length able - K) able (distinct-keep usable reliability once))
       ∙ simp length-drop (let h = enough K E c in omega arith);
-  rising = ascends (λ p. has p best) 0 (N K E);
   below = λ p h. low p (kept (λ q. has q best) (count 0 (N K E)) p h .1);
   unbarred = λ p h. right (ltb p (N K E)) (not (has p (barred kind (N K E) E))) (passes p (kept (λ q. has q best) (count 0 (N K E)) p h .1));
 }

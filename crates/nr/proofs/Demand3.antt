@@ -16,15 +16,15 @@ use borrow.Author.Tests.{le-ltb, lt-ltb, eq-eqb, leb-true, leb-false}
 use Rattle.nr.specs.declared.Numbers.{Numbers}
 use Rattle.nr.specs.declared.RateMatching.{RateMatching}
 use Rattle.nr.specs.declared.RateMatching.the-variants.{Repetition, Puncturing, Shortening}
-use Rattle.nr.specs.Rows.{count, has}
+use Rattle.nr.specs.Rows.{count, has, first}
 use Rattle.nr.specs.Numbers.{K, lengths}
 use Rattle.nr.specs.Answer.{refusal, refusalOf, Outcome, outcome}
 use Rattle.nr.specs.Parity.{attach, parityMatches}
-use Rattle.nr.specs.Construction.{n, N, rateMatching, front, unsent, barred, Layout, layout}
+use Rattle.nr.specs.Construction.{n, N, lowRate, rateMatching, front, unsent, barred, Layout, layout}
 use Rattle.nr.specs.RateMatching.{select}
-use Rattle.nr.specs.Scrambling.{gold}
-use Rattle.nr.specs.Coding.{codeWord, coded, badByte, coding}
-use Rattle.nr.specs.Decoding.{received, orParity, badSoft, decoding}
+use Rattle.nr.specs.Scrambling.{gold, cInit}
+use Rattle.nr.specs.Coding.{codeWord, coded, badByte, codingFor, coding}
+use Rattle.nr.specs.Decoding.{received, orParity, badSoft, decodingFor, decoding}
 use Rattle.nr.specs.Demand3.{Accepted, Payload, Noiseless, Demand3, HypothesesMet}
 use Rattle.nr.proofs.Tests.{is}
 use Rattle.nr.proofs.Rows.{first-none, getD-map, not-has-left}
@@ -40,7 +40,7 @@ use Rattle.nr.proofs.RoundTrip.{Sound, round-trip}
 
 fits : (K E : ℕ) → Fits (rateMatching K E) (N K E) E
 unfolding rateMatching
-fits K E = go (leb (N K E) E) refl (leb (16 * K) (7 * E))
+fits K E = go (leb (N K E) E) refl (lowRate K E)
   where
     go : (a : Bool) → leb (N K E) E ≡ a → (b : Bool) → Fits (cond a Repetition (cond b Puncturing Shortening)) (N K E) E
     go true e b = leb-true (N K E) E e
@@ -66,12 +66,13 @@ sound K E c =
 
 -- ---- none of 1 to 6 applies
 
-unrefused : (A E given asked room wanted bad : ℕ) → refusal A E ≡ 0 → given ≡ asked → room ≡ wanted → bad ≡ given
-    → refusalOf A E given asked room wanted bad ≡ 0
+unrefused : {X : Type 0} (A E : ℕ) (bad : X → Bool) (input : List X) (out : List ℕ) (asked wanted : ℕ)
+    → refusal A E ≡ 0 → length input ≡ asked → length out ≡ wanted → first bad input ≡ length input
+    → refusalOf A E bad input asked out wanted ≡ 0
 unfolding refusalOf
-unrefused A E given asked room wanted bad r e e′ e″ =
+unrefused A E bad input out asked wanted r e e′ e″ =
     let c = clear A E r in
-    rw (c .size, c .length, c .room, eq-eqb given asked e, eq-eqb room wanted e′, le-ltb bad given (omega arith))
+    rw (c .size, c .length, c .room, eq-eqb (length input) asked e, eq-eqb (length out) wanted e′, le-ltb (first bad input) (length input) (omega arith))
 
 -- ---- coding
 
@@ -80,7 +81,7 @@ module _ (s : Numbers) (payload : List ℕ) (a : Accepted s) (p : Payload s payl
   l = layout (K (s .a)) (s .e)
 
   abbrev sent : List ℕ
-  sent = coded l (s .e) (s .rnti) (s .«n_id») payload
+  sent = coded l (s .e) (s .rnti) (cInit s) payload
 
   bits : Bits payload
   bits k = elim (decLe (s .a) k) [
@@ -90,20 +91,20 @@ module _ (s : Numbers) (payload : List ℕ) (a : Accepted s) (p : Payload s payl
 
   bits-sent : Bits sent
   unfolding coded
-  bits-sent = bits-xors (select (l .kind) (2 ^ l .n) (s .e) (codeWord l (s .rnti) payload)) (gold (s .«n_id») (s .e))
+  bits-sent = bits-xors (select (l .kind) (2 ^ l .n) (s .e) (codeWord l (s .rnti) payload)) (gold (cInit s) (s .e))
 
   length-sent : length sent ≡ s .e
   unfolding coded
   length-sent =
-      length-xors (s .e) (select (l .kind) (2 ^ l .n) (s .e) (codeWord l (s .rnti) payload)) (gold (s .«n_id») (s .e))
-      (length-select (l .kind) (2 ^ l .n) (s .e) (codeWord l (s .rnti) payload)) (length-gold (s .«n_id») (s .e))
+      length-xors (s .e) (select (l .kind) (2 ^ l .n) (s .e) (codeWord l (s .rnti) payload)) (gold (cInit s) (s .e))
+      (length-select (l .kind) (2 ^ l .n) (s .e) (codeWord l (s .rnti) payload)) (length-gold (cInit s) (s .e))
 
   coding-is : (out : List ℕ) → length out ≡ s .e → coding s payload out ≡ record { number = 0; place = 0; buffer = sent }
-  unfolding coding outcome badByte
+  unfolding coding codingFor outcome badByte
   coding-is out e =
-      ap (λ (i : ℕ). outcome i (badByte payload) sent out)
-      (unrefused (s .a) (s .e) (length payload) (s .a) (length out) (s .e) (badByte payload) a (p .size) e
-      (first-none (ltb 1) payload 0 (λ k h. le-ltb 1 (getD payload k 0) (bits k))))
+      ap (λ (i : ℕ). outcome i (first badByte payload) sent out)
+      (unrefused (s .a) (s .e) badByte payload out (s .a) (s .e) a (p .size) e
+      (first-none badByte payload 0 (λ k h. le-ltb 1 (getD payload k 0) (bits k))))
 
   -- ---- decoding
 
@@ -119,27 +120,27 @@ module _ (s : Numbers) (payload : List ℕ) (a : Accepted s) (p : Payload s payl
         sign (negsuc x) (suc zero) h p m = Sign.minus
         sign x (suc (suc d)) h p m = absurd (not-suc-le-zero (le-of-suc-le-suc h))
 
-    received-is : received l (s .e) (s .rnti) (s .«n_id») soft ≡ attach payload
+    received-is : received l (s .e) (s .rnti) (cInit s) soft ≡ attach payload
     unfolding layout
     received-is =
-        round-trip l (s .e) (s .rnti) (s .«n_id») (sound (K (s .a)) (s .e) c) payload bits
+        round-trip l (s .e) (s .rnti) (cInit s) (sound (K (s .a)) (s .e) c) payload bits
         (ap (λ (k : ℕ). k + 24) (p .size) ∙ sym (positions (K (s .a)) (s .e) c .size)) soft (clean .size) signs
       where
         c : Sized (K (s .a)) (s .e)
         c = accepted (s .a) (s .e) a
 
     decoding-is : decoding s soft out′ ≡ record { number = 0; place = 0; buffer = payload }
-    unfolding decoding outcome orParity badSoft
+    unfolding decoding decodingFor outcome orParity badSoft
     decoding-is =
         let A : ℕ = s .a in
-        ap₂ (λ (i : ℕ) (b : List ℕ). outcome (orParity i A b) (badSoft soft) (take A b) out′) unbad received-is
-        ∙ ap (λ (t : Bool). outcome (cond t 0 7) (badSoft soft) (take A (attach payload)) out′) (is (parityMatches A (attach payload)) (accepts A payload (p .size)))
-        ∙ ap (λ (r : List ℕ). outcome 0 (badSoft soft) r out′) (attach-front A payload (p .size))
+        ap₂ (λ (i : ℕ) (b : List ℕ). outcome (orParity i A b) (first badSoft soft) (take A b) out′) unbad received-is
+        ∙ ap (λ (t : Bool). outcome (cond t 0 7) (first badSoft soft) (take A (attach payload)) out′) (is (parityMatches A (attach payload)) (accepts A payload (p .size)))
+        ∙ ap (λ (r : List ℕ). outcome 0 (first badSoft soft) r out′) (attach-front A payload (p .size))
       where
-        unbad : refusalOf (s .a) (s .e) (length soft) (s .e) (length out′) (s .a) (badSoft soft) ≡ 0
+        unbad : refusalOf (s .a) (s .e) badSoft soft (s .e) out′ (s .a) ≡ 0
         unbad =
-            unrefused (s .a) (s .e) (length soft) (s .e) (length out′) (s .a) (badSoft soft) a (clean .size) e
-            (first-none (λ x. ltb 127 (natAbs x)) soft (pos 0) (λ k h. le-ltb 127 (natAbs (getD soft k (pos 0))) (clean .range k (subst (λ (m : ℕ). k < m) (clean .size) h))))
+            unrefused (s .a) (s .e) badSoft soft out′ (s .e) (s .a) a (clean .size) e
+            (first-none badSoft soft (pos 0) (λ k h. le-ltb 127 (natAbs (getD soft k (pos 0))) (clean .range k (subst (λ (m : ℕ). k < m) (clean .size) h))))
 
 pub demand3 : Demand3
 demand3 = record {

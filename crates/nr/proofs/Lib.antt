@@ -11,6 +11,7 @@ pub mod Parity
 pub mod Matching
 pub mod Scrambling
 pub mod RoundTrip
+pub mod Demand1
 pub mod Demand3
 pub mod Kronecker
 pub mod MarkedCases

@@ -12,7 +12,7 @@ use Rattle.nr.specs.Numbers.{K}
 use Rattle.nr.specs.Answer.{refusal}
 use Rattle.nr.specs.Interleaver.{interleaver, pattern}
 use Rattle.nr.specs.Reliability.{reliability}
-use Rattle.nr.specs.Construction.{log2up, n1, n2, n, N, rateMatching, P, J, unsent, front, barred, free, chosen, layout}
+use Rattle.nr.specs.Construction.{log2up, n1, n2, n, N, lowRate, rateMatching, P, J, unsent, front, barred, free, chosen, layout}
 use Rattle.nr.specs.SuccessiveDecoder.{f, g}
 
 -- of A and E: N, the kind, the unsent positions, the barred positions ascending, the information positions
@@ -48,7 +48,7 @@ pub record MarkedCases : Type 0 where
   pub t12 : pattern 36 ≡ 1 ∷ 4 ∷ 6 ∷ 10 ∷ 11 ∷ 12 ∷ 0 ∷ 2 ∷ 5 ∷ 7 ∷ 13 ∷ 3 ∷ 8 ∷ 14 ∷ 9 ∷ 15 ∷ count 16 20
 
 pub marked-cases : MarkedCases
-unfolding log2up refusal n1 n2 n rateMatching P J unsent front barred free chosen layout reliability interleaver pattern f g
+unfolding log2up refusal n1 n2 n lowRate rateMatching P J unsent front barred free chosen layout reliability interleaver pattern f g
 marked-cases = record {
   t1 = (refl, refl, refl, refl, refl);
   t2 = (refl, refl, refl);

@@ -1,14 +1,14 @@
 -- Rate matching and scrambling undone: from soft values with the signs of the sent bits, the decoder's row is noiseless for the code word.
 -- Assumes nothing.
 use Prim.Native.Nat.{ℕ, zero, suc, _+_, _-_, _*_, _/_, _%_, _^_, _≤_, _<_}
-use native.Mathlib.Nat.{suc-add, suc-ne-zero, suc-inj, not-suc-le-zero, le-of-suc-le-suc, mod-lt, mod-eq-of-lt, add-mod-left, lt-of-not-le}
+use native.Mathlib.Nat.{suc-add, suc-mul, suc-ne-zero, suc-inj, not-suc-le-zero, le-of-suc-le-suc, mod-lt, mod-eq-of-lt, add-mod-left, lt-of-not-le}
 use native.Mathlib.Decide.{decLe}
 use native.Mathlib.Omega.{arith}
-use mathlib.Core.Path.{_≡_, refl, sym, subst, ap, _∙_}
+use mathlib.Core.Path.{_≡_, refl, sym, subst, ap, ap₂, _∙_}
 use mathlib.Core.Bool.{Bool, true, false, not}
 use mathlib.Core.List.{List, [], _∷_, _++_, map, zipWith}
 use lib.Dec.{T}
-use lib.IntN.{ℤ, pos, negsuc, negℤ, _+ℤ_}
+use lib.IntN.{ℤ, pos, negsuc, negℤ, _+ℤ_, +ℤ-idl, +ℤ-idr}
 use lib.ListN.{length, getD, take, drop, replicate, length-take, length-drop, length-append, length-replicate, getD-replicate, List·getD-append}
 use lib.Seq.{getD-take, getD-drop, getD-append-add}
 use lib.Pow.{pow-pos}
@@ -18,7 +18,7 @@ use Rattle.nr.specs.Rows.{count, has, place, entries, xor}
 use Rattle.nr.specs.Construction.{J, unsent}
 use Rattle.nr.specs.Transform.{transform}
 use Rattle.nr.specs.RateMatching.{subBlocks, selected, select}
-use Rattle.nr.specs.SuccessiveDecoder.{negateIf, plus, addUp, gather, codeRow}
+use Rattle.nr.specs.SuccessiveDecoder.{negateIf, plus, addUp, certain, gather, codeRow}
 use Rattle.nr.proofs.Tests.{holds, is, clash}
 use Rattle.nr.proofs.Rows.{length-table, getD-table, length-entries, getD-entries, getD-behind}
 use Rattle.nr.proofs.Zip.{Bits, bits-entries}
@@ -37,6 +37,39 @@ abbrev Signs : List ℤ → (ℕ → ℕ) → Type 0
 Signs row bit = (k : ℕ) → k < length row → Sign (getD row k (pos 0)) (bit k)
 
 -- ---- repeats add up
+
+-- h 0 + .. + h (k - 1)
+unfoldable pub sum : ℕ → (ℕ → ℤ) → ℤ
+sum zero h = pos 0
+sum (suc k) h = h 0 +ℤ sum k (λ j. h (suc j))
+
+sum-cong : (k : ℕ) (h g : ℕ → ℤ) → ((j : ℕ) → h j ≡ g j) → sum k h ≡ sum k g
+unfolding sum
+sum-cong zero h g e = refl
+sum-cong (suc k) h g e = ap₂ _+ℤ_ (e 0) (sum-cong k (λ j. h (suc j)) (λ j. g (suc j)) (λ j. e (suc j)))
+
+plus-at : (a b : List ℤ) (i : ℕ) → getD (plus a b) i (pos 0) ≡ getD a i (pos 0) +ℤ getD b i (pos 0)
+plus-at [] b i = sym (+ℤ-idl (getD b i (pos 0)))
+plus-at (x ∷ a) [] i = sym (+ℤ-idr (getD (x ∷ a) i (pos 0)))
+plus-at (x ∷ a) (y ∷ b) zero = refl
+plus-at (x ∷ a) (y ∷ b) (suc i) = plus-at a b i
+
+-- place i has the sum of the values at i, N + i, 2 N + i, ..
+pub addUp-at : (N pieces : ℕ) (row : List ℤ) (i : ℕ) → i < N → getD (addUp N pieces row) i (pos 0) ≡ sum pieces (λ j. getD row (j * N + i) (pos 0))
+unfolding addUp sum
+addUp-at N zero row i h = refl
+addUp-at N (suc pieces) row i h =
+    plus-at (take N row) (addUp N pieces (drop N row)) i
+    ∙ ap₂ _+ℤ_ (getD-take N row i (pos 0) h ∙ ap (λ (k : ℕ). getD row k (pos 0)) (front N i))
+    (addUp-at N pieces (drop N row) i h
+    ∙ sum-cong pieces (λ j. getD (drop N row) (j * N + i) (pos 0)) (λ j. getD row (suc j * N + i) (pos 0))
+    (λ j. getD-drop N row (j * N + i) (pos 0) ∙ ap (λ (k : ℕ). getD row k (pos 0)) (next N i j)))
+  where
+    front : (N i : ℕ) → i ≡ 0 * N + i
+    front N i = omega arith
+
+    next : (N i j : ℕ) → N + (j * N + i) ≡ suc j * N + i
+    next N i j = let e = suc-mul j N in omega arith
 
 sign-sum : {x y : ℤ} {d : ℕ} → Sign x d → Sign y d → Sign (x +ℤ y) d
 sign-sum (Sign.plus) (Sign.plus) = rw suc-add Sign.plus
@@ -106,6 +139,11 @@ abbrev pub punctured : RateMatching → ℕ → ℕ → ℕ → Bool
 punctured Repetition N E p = false
 punctured Puncturing N E p = has p (unsent Puncturing N E)
 punctured Shortening N E p = false
+
+-- the value of a shortened position speaks for 0
+certain-sign : Sign certain 0
+unfolding certain
+certain-sign = Sign.plus
 
 module _ (k E : ℕ) (u : List ℕ) (soft : List ℤ) (le : length soft ≡ E) where
   -- the row at position p is what was gathered for it
@@ -189,12 +227,12 @@ module _ (k E : ℕ) (u : List ℕ) (soft : List ℤ) (le : length soft ≡ E) w
             let r : i < N = rank-lt k p h in
             let z : getD d p 0 ≡ 0 =
             transform-zero (k + 5) u (λ q. has q (unsent Shortening N E)) lu (shortened-up k E (omega arith)) un p h (holds e) in
-            rw (z, getD-behind soft (replicate (N - E) (pos 1048576)) E i (pos 0) le l, getD-replicate (N - E) (i - E) (pos 1048576) (pos 0) (omega arith))
-            (Sign.plus {x = 1048575})
+            rw (z, getD-behind soft (replicate (N - E) certain) E i (pos 0) le l, getD-replicate (N - E) (i - E) certain (pos 0) (omega arith))
+            certain-sign
         go false e =
             let r : i < N = rank-lt k p h in
             let l : i < E = elim (decLe E i) [ no m ↦ lt-of-not-le m | yes m ↦ clash (is (has p (unsent Shortening N E)) (finds k E (N - E) p h m (omega arith))) e ] in
-            rw (List·getD-append soft (replicate (N - E) (pos 1048576)) (pos 0) i (omega arith), ← (at-position p h)) (one Shortening s i i l r refl)
+            rw (List·getD-append soft (replicate (N - E) certain) (pos 0) i (omega arith), ← (at-position p h)) (one Shortening s i i l r refl)
 
 -- ---- scrambling
 

@@ -187,6 +187,10 @@ remainder-end m h p lh lp bh bp =
     ∙ divide-xors m (h ++ replicate 24 0) (replicate m 0 ++ p) (simp (length-append, length-replicate) (omega arith))
     ∙ ap (λ (r : List ℕ). xors (divide m (h ++ replicate 24 0)) r) (divide-zeros m p bp)
 
+remainder-is : (m : ℕ) (h : List ℕ) → length h ≡ m → divide m (h ++ replicate 24 0) ≡ remainder (h ++ replicate 24 0)
+unfolding remainder
+remainder-is m h e = ap (λ (k : ℕ). divide k (h ++ replicate 24 0)) (simp (length-append, length-replicate) (omega arith))
+
 -- 24 ones before a row
 abbrev pub onesBefore : List ℕ → List ℕ
 onesBefore row = replicate 24 1 ++ row
@@ -197,9 +201,10 @@ module _ (payload : List ℕ) where
 
   -- the parity, with the row that is divided bracketed as its front and 24 zeros
   parity-is : divide (24 + length payload) (onesBefore payload ++ replicate 24 0) ≡ parity payload
-  unfolding parity remainder
+  unfolding parity
   parity-is =
-      ap₂ divide (simp (length-append, length-replicate) (omega arith)) (append-assoc (replicate 24 1) payload (replicate 24 0))
+      remainder-is (24 + length payload) (onesBefore payload) length-ones
+      ∙ ap remainder (append-assoc (replicate 24 1) payload (replicate 24 0))
 
   pub length-parity : length (parity payload) ≡ 24
   length-parity =
@@ -265,17 +270,17 @@ attach-front A payload e = take-at payload (parity payload) A e
 
 -- ---- the check
 
--- it accepts what was attached
-pub accepts : (A : ℕ) (payload : List ℕ) → length payload ≡ A → T (parityMatches A (attach payload))
-unfolding parityMatches attach
-accepts A payload e =
-    rw (take-at payload (parity payload) A e, drop-at payload (parity payload) A e) (same-refl (parity payload))
-
--- and only that
+-- it accepts only what was attached
 pub accepts-only : (A : ℕ) (b : List ℕ) → T (parityMatches A b) → b ≡ attach (take A b)
 unfolding parityMatches attach
 accepts-only A b t =
     sym (take-append-drop A b) ∙ ap (λ (r : List ℕ). take A b ++ r) (sym (same-eq (parity (take A b)) (drop A b) t))
+
+-- and all of it
+pub accepts : (A : ℕ) (payload : List ℕ) → length payload ≡ A → T (parityMatches A (attach payload))
+unfolding parityMatches attach
+accepts A payload e =
+    rw (take-at payload (parity payload) A e, drop-at payload (parity payload) A e) (same-refl (parity payload))
 
 -- so it accepts exactly the rows that are, with the 24 ones in front, a multiple of the generator
 pub accepts-multiples : (A : ℕ) (b : List ℕ) → length b ≡ A + 24 → Bits b → T (parityMatches A b) ↔ Multiple (onesBefore b)
@@ -319,6 +324,18 @@ accepts-multiples A b e bits = (
         sym (take-append-drop A b) ∙ ap (λ (r : List ℕ). take A b ++ r) (sym eq)
 
 -- ---- the RNTI
+
+-- all but the last 16 bits stay, and the RNTI is added to those
+module _ (rnti : ℕ) (front back : List ℕ) (size : length back ≡ 16) (bits : Bits front) where
+  pub maskRnti-ends : maskRnti rnti (front ++ back) ≡ front ++ xors back (msbFirst 16 rnti)
+  unfolding maskRnti xors
+  maskRnti-ends =
+      ap (λ (k : ℕ). xors (front ++ back) (replicate k 0 ++ msbFirst 16 rnti)) (length-of (length-append front back))
+      ∙ zipWith-append xor front back (replicate (length front) 0) (msbFirst 16 rnti) (sym (length-replicate (length front) 0))
+      ∙ ap (λ (r : List ℕ). r ++ xors back (msbFirst 16 rnti)) (xors-zeros (length front) front refl bits)
+    where
+      length-of : {k : ℕ} → k ≡ length front + length back → k - 16 ≡ length front
+      length-of e = omega arith
 
 module _ (rnti : ℕ) (b : List ℕ) (room : 16 ≤ length b) where
   abbrev mask : List ℕ

@@ -8,7 +8,7 @@ use mathlib.Core.List.{List, [], _∷_}
 use lib.ListN.{length, getD}
 use lib.Pow.{pow-pos, pow-add, shr-shr}
 use Rattle.nr.specs.Rows.{bit}
-use Rattle.nr.specs.Scrambling.{shift, step1, step2, after, terms, gold}
+use Rattle.nr.specs.Scrambling.{next1, next2, shift, step1, step2, after, terms, gold}
 use Rattle.nr.proofs.Zip.{Bits}
 
 -- ---- E bits
@@ -26,11 +26,11 @@ bits-terms (suc k) s1 s2 (suc i) = bits-terms k (step1 s1) (step2 s2) i
 
 pub length-gold : (start E : ℕ) → length (gold start E) ≡ E
 unfolding gold
-length-gold start E = length-terms E (after step1 1600 1) (after step2 1600 start)
+length-gold start E = length-terms E _ _
 
 pub bits-gold : (start E : ℕ) → Bits (gold start E)
 unfolding gold
-bits-gold start E = bits-terms E (after step1 1600 1) (after step2 1600 start)
+bits-gold start E = bits-terms E _ _
 
 -- ---- a register makes the terms of its sequence one after the other
 
@@ -103,40 +103,36 @@ x1 s i = bit 0 (after step1 i s)
 abbrev pub x2 : ℕ → ℕ → ℕ
 x2 s i = bit 0 (after step2 i s)
 
-abbrev feed1 : ℕ → ℕ
-feed1 s = (bit 3 s + bit 0 s) % 2
+next1-bit : (s : ℕ) → next1 s ≤ 1
+unfolding next1
+next1-bit s = omega arith
 
-abbrev feed2 : ℕ → ℕ
-feed2 s = (bit 3 s + bit 2 s + bit 1 s + bit 0 s) % 2
-
-feed1-bit : (s : ℕ) → feed1 s ≤ 1
-feed1-bit s = omega arith
-
-feed2-bit : (s : ℕ) → feed2 s ≤ 1
-feed2-bit s = omega arith
+next2-bit : (s : ℕ) → next2 s ≤ 1
+unfolding next2
+next2-bit s = omega arith
 
 pub x1-starts : (s j : ℕ) → j ≤ 30 → x1 s j ≡ bit j s
 unfolding step1
-x1-starts = first-terms feed1 feed1-bit
+x1-starts = first-terms next1 next1-bit
 
 pub x2-starts : (s j : ℕ) → j ≤ 30 → x2 s j ≡ bit j s
 unfolding step2
-x2-starts = first-terms feed2 feed2-bit
+x2-starts = first-terms next2 next2-bit
 
 pub x1-recurs : (s i : ℕ) → s < 2 ^ 31 → x1 s (i + 31) ≡ (x1 s (i + 3) + x1 s i) % 2
-unfolding step1
+unfolding next1 step1
 x1-recurs s i h =
-    next-term feed1 feed1-bit s i h
-    ∙ ap (λ (a : ℕ). (a + x1 s i) % 2) (window feed1 feed1-bit 3 i s (omega arith))
+    next-term next1 next1-bit s i h
+    ∙ ap (λ (a : ℕ). (a + x1 s i) % 2) (window next1 next1-bit 3 i s (omega arith))
 
 pub x2-recurs : (s i : ℕ) → s < 2 ^ 31 → x2 s (i + 31) ≡ (x2 s (i + 3) + x2 s (i + 2) + x2 s (i + 1) + x2 s i) % 2
-unfolding step2
+unfolding next2 step2
 x2-recurs s i h =
-    next-term feed2 feed2-bit s i h
+    next-term next2 next2-bit s i h
     ∙ ap₃ (λ (a b c : ℕ). (a + b + c + x2 s i) % 2) (at 3 (omega arith)) (at 2 (omega arith)) (at 1 (omega arith))
   where
     at : (j : ℕ) → j ≤ 30 → bit j (after step2 i s) ≡ x2 s (i + j)
-    at j l = window feed2 feed2-bit j i s l
+    at j l = window next2 next2-bit j i s l
 
     ap₃ : (f : ℕ → ℕ → ℕ → ℕ) {a a′ b b′ c c′ : ℕ} → a ≡ a′ → b ≡ b′ → c ≡ c′ → f a b c ≡ f a′ b′ c′
     ap₃ f p q r = ap₂ (λ (g : ℕ → ℕ) (c : ℕ). g c) (ap₂ f p q) r
@@ -157,5 +153,5 @@ terms-at (suc E) s1 s2 (suc k) h = terms-at E (step1 s1) (step2 s2) k (le-of-suc
 pub gold-at : (start E k : ℕ) → k < E → getD (gold start E) k 0 ≡ (x1 1 (1600 + k) + x2 start (1600 + k)) % 2
 unfolding gold
 gold-at start E k h =
-    terms-at E (after step1 1600 1) (after step2 1600 start) k h
+    terms-at E _ _ k h
     ∙ ap₂ (λ (a b : ℕ). (bit 0 a + bit 0 b) % 2) (after-after step1 1600 k 1) (after-after step2 1600 k start)

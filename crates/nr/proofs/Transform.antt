@@ -59,12 +59,15 @@ length-transform (suc n) u e =
     let l₁ : length (lo n u) ≡ 2 ^ n = length-transform n _ (length-lo n u e) in
     let l₂ : length (hi n u) ≡ 2 ^ n = length-transform n _ (length-hi n u e) in
     let l : length (xors (lo n u) (hi n u)) ≡ 2 ^ n = length-xors (2 ^ n) (lo n u) (hi n u) l₁ l₂ in
-    length-append (xors (lo n u) (hi n u)) (hi n u) ∙ omega (arith, pow-suc 2 n)
+    simp (length-append, l₂, l) (omega (arith, pow-suc 2 n))
 
 pub bits-transform : (n : ℕ) (u : List ℕ) → Bits u → Bits (transform n u)
 unfolding transform
 bits-transform zero u b = b
-bits-transform (suc n) u b = bits-append (xors (lo n u) (hi n u)) (hi n u) (bits-xors (lo n u) (hi n u)) (bits-transform n (drop (2 ^ n) u) (bits-drop (2 ^ n) u b))
+bits-transform (suc n) u b =
+    let p : Bits (lo n u) = bits-transform n (take (2 ^ n) u) (bits-take (2 ^ n) u b) in
+    let q : Bits (hi n u) = bits-transform n (drop (2 ^ n) u) (bits-drop (2 ^ n) u b) in
+    search (bits-append, bits-xors)
 
 module _ (n : ℕ) (u : List ℕ) (e : length u ≡ 2 ^ suc n) where
   pub len-lo : length (lo n u) ≡ 2 ^ n

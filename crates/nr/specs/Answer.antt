@@ -6,7 +6,8 @@ use mathlib.Core.List.{List, [], _∷_}
 use lib.Dec.{eqb, ltb}
 use Rattle.nr.specs.declared.Answer.{Answer}
 use Rattle.nr.specs.declared.Answer.the-variants.{Done, PayloadSize, CodedLength, TooManyBits, InputLength, OutputLength, BadEntry, ParityMismatch}
-use Rattle.nr.specs.Rows.{has}
+use lib.ListN.{length}
+use Rattle.nr.specs.Rows.{has, first}
 use Rattle.nr.specs.Numbers.{K, lengths}
 
 -- the number of each answer
@@ -44,10 +45,11 @@ tests A E more = (ltb A 12 || ltb 140 A) ∷ not (has E lengths) ∷ ltb E (K A)
 unfoldable pub refusal : ℕ → ℕ → ℕ
 refusal A E = firstOf 1 (tests A E [])
 
--- the numbers 1 to 6: the input is `given` long and should be `asked`, the output `room` and should be `wanted`,
--- and the first bad entry stands at `bad`, which is the input's length if there is none
-unfoldable pub refusalOf : ℕ → ℕ → ℕ → ℕ → ℕ → ℕ → ℕ → ℕ
-refusalOf A E given asked room wanted bad = firstOf 1 (tests A E (not (eqb given asked) ∷ not (eqb room wanted) ∷ ltb bad given ∷ []))
+-- the numbers 1 to 6: the input should be `asked` long, the output buffer `wanted`, and no entry of the input `bad`
+unfoldable pub refusalOf : {X : Type 0} → ℕ → ℕ → (X → Bool) → List X → ℕ → List ℕ → ℕ → ℕ
+refusalOf A E bad input asked out wanted =
+    firstOf 1
+    (tests A E (not (eqb (length input) asked) ∷ not (eqb (length out) wanted) ∷ ltb (first bad input) (length input) ∷ []))
 
 -- what a call gives: the number, the place that it carries, and what the output buffer then holds
 pub record Outcome : Type 0 where
@@ -55,10 +57,10 @@ pub record Outcome : Type 0 where
   pub place : ℕ
   pub buffer : List ℕ
 
--- by the number: 0 leaves the new row in the buffer, every other the old one; 6 carries the place
+-- by the number: 0 leaves the new row in the buffer, every other the old one; 6 carries the place of the first bad entry
 unfoldable pub outcome : ℕ → ℕ → List ℕ → List ℕ → Outcome
-outcome zero bad new old = record { number = 0; place = 0; buffer = new }
-outcome (suc i) bad new old = record { number = suc i; place = cond (eqb (suc i) 6) bad 0; buffer = old }
+outcome zero at new old = record { number = 0; place = 0; buffer = new }
+outcome (suc i) at new old = record { number = suc i; place = cond (eqb (suc i) 6) at 0; buffer = old }
 
 -- an answer of the code with the buffer that it leaves, as such
 unfoldable pub given : Answer → List ℕ → Outcome

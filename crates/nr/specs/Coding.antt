@@ -4,7 +4,6 @@ use Prim.Native.Nat.{ℕ, _^_}
 use mathlib.Core.Bool.{Bool}
 use mathlib.Core.List.{List, map}
 use lib.Dec.{ltb}
-use lib.ListN.{length}
 use Rattle.nr.specs.declared.Numbers.{Numbers}
 use Rattle.nr.specs.Rows.{count, first, place, entries, xors}
 use Rattle.nr.specs.Numbers.{K}
@@ -14,7 +13,7 @@ use Rattle.nr.specs.Interleaver.{interleave}
 use Rattle.nr.specs.Construction.{Layout, layout}
 use Rattle.nr.specs.Transform.{transform}
 use Rattle.nr.specs.RateMatching.{select}
-use Rattle.nr.specs.Scrambling.{gold}
+use Rattle.nr.specs.Scrambling.{gold, cInit}
 
 -- u: the k-th information position has bit k, and every other position 0
 unfoldable pub placed : ℕ → List ℕ → List ℕ → List ℕ
@@ -30,12 +29,16 @@ codeWord l rnti payload =
 unfoldable pub coded : Layout → ℕ → ℕ → ℕ → List ℕ → List ℕ
 coded l E rnti start payload = xors (select (l .kind) (2 ^ l .n) E (codeWord l rnti payload)) (gold start E)
 
--- the place of the first payload byte above 1
-unfoldable pub badByte : List ℕ → ℕ
-badByte = first (ltb 1)
+-- a payload byte above 1
+unfoldable pub badByte : ℕ → Bool
+badByte = ltb 1
 
--- document 01's call
+-- the call for a given layout
+unfoldable pub codingFor : Layout → Numbers → List ℕ → List ℕ → Outcome
+codingFor l s payload out =
+    outcome (refusalOf (s .a) (s .e) badByte payload (s .a) out (s .e)) (first badByte payload)
+    (coded l (s .e) (s .rnti) (cInit s) payload) out
+
+-- document 01's call: that for the layout of A and E
 unfoldable pub coding : Numbers → List ℕ → List ℕ → Outcome
-coding s payload out =
-    outcome (refusalOf (s .a) (s .e) (length payload) (s .a) (length out) (s .e) (badByte payload)) (badByte payload)
-    (coded (layout (K (s .a)) (s .e)) (s .e) (s .rnti) (s .«n_id») payload) out
+coding s = codingFor (layout (K (s .a)) (s .e)) s

@@ -35,11 +35,13 @@ n K E = max (min (min (n1 K E) (n2 K)) 9) 5
 abbrev pub N : ℕ → ℕ → ℕ
 N K E = 2 ^ n K E
 
+-- K/E is at most 7/16, in whole numbers
+unfoldable pub lowRate : ℕ → ℕ → Bool
+lowRate K E = leb (16 * K) (7 * E)
+
 -- how E bits are made of the N code bits
 unfoldable pub rateMatching : ℕ → ℕ → RateMatching
-rateMatching K E =
-    cond (leb (N K E) E) Repetition
-    (cond (leb (16 * K) (7 * E)) Puncturing Shortening)
+rateMatching K E = cond (leb (N K E) E) Repetition (cond (lowRate K E) Puncturing Shortening)
 
 -- P: the order of the 32 sub-blocks
 unfoldable pub P : List ℕ

@@ -5,7 +5,7 @@ use mathlib.Core.Bool.{Bool, cond}
 use mathlib.Core.List.{List}
 use lib.Dec.{ltb}
 use lib.IntN.{ℤ, natAbs}
-use lib.ListN.{length, take}
+use lib.ListN.{take}
 use Rattle.nr.specs.declared.Numbers.{Numbers}
 use Rattle.nr.specs.Rows.{first, entries}
 use Rattle.nr.specs.Numbers.{K}
@@ -13,7 +13,7 @@ use Rattle.nr.specs.Answer.{refusalOf, Outcome, outcome}
 use Rattle.nr.specs.Parity.{maskRnti, parityMatches}
 use Rattle.nr.specs.Interleaver.{deinterleave}
 use Rattle.nr.specs.Construction.{Layout, layout}
-use Rattle.nr.specs.Scrambling.{gold}
+use Rattle.nr.specs.Scrambling.{gold, cInit}
 use Rattle.nr.specs.SuccessiveDecoder.{descramble, codeRow, successive, marks}
 
 -- the decided bits, in order of position, of a row of E soft values
@@ -31,13 +31,16 @@ unfoldable pub orParity : ℕ → ℕ → List ℕ → ℕ
 orParity zero A b = cond (parityMatches A b) 0 7
 orParity (suc i) A b = suc i
 
--- the place of the first soft value outside -127..127
-unfoldable pub badSoft : List ℤ → ℕ
-badSoft = first (λ x. ltb 127 (natAbs x))
+-- a soft value outside -127..127
+unfoldable pub badSoft : ℤ → Bool
+badSoft x = ltb 127 (natAbs x)
 
--- document 01's call
+-- the call for a given layout
+unfoldable pub decodingFor : Layout → Numbers → List ℤ → List ℕ → Outcome
+decodingFor l s soft out =
+    let b : List ℕ = received l (s .e) (s .rnti) (cInit s) soft in
+    outcome (orParity (refusalOf (s .a) (s .e) badSoft soft (s .e) out (s .a)) (s .a) b) (first badSoft soft) (take (s .a) b) out
+
+-- document 01's call: that for the layout of A and E
 unfoldable pub decoding : Numbers → List ℤ → List ℕ → Outcome
-decoding s soft out =
-    let b : List ℕ = received (layout (K (s .a)) (s .e)) (s .e) (s .rnti) (s .«n_id») soft in
-    let i : ℕ = refusalOf (s .a) (s .e) (length soft) (s .e) (length out) (s .a) (badSoft soft) in
-    outcome (orParity i (s .a) b) (badSoft soft) (take (s .a) b) out
+decoding s = decodingFor (layout (K (s .a)) (s .e)) s

@@ -31,11 +31,15 @@ unfoldable pub addUp : ℕ → ℕ → List ℤ → List ℤ
 addUp N zero row = []
 addUp N (suc pieces) row = plus (take N row) (addUp N pieces (drop N row))
 
+-- the value of a shortened position, whose bit is known to be 0
+unfoldable pub certain : ℤ
+certain = pos 1048576
+
 -- the N values by sub-block order: repeats added; never sent is 0 when punctured and 1,048,576 when shortened
 unfoldable pub gather : RateMatching → ℕ → ℕ → List ℤ → List ℤ
 gather Repetition N E row = addUp N (suc (E / N)) row
 gather Puncturing N E row = replicate (N - E) (pos 0) ++ row
-gather Shortening N E row = row ++ replicate (N - E) (pos 1048576)
+gather Shortening N E row = row ++ replicate (N - E) certain
 
 -- the same by code position: what came for J(i) stands at position J(i)
 unfoldable pub codeRow : RateMatching → ℕ → ℕ → List ℤ → List ℤ
