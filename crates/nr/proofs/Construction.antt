@@ -1,16 +1,16 @@
 -- Code length and positions, for every accepted pair: N by the length alone, exactly K information positions, ascending, below N, none barred.
 -- Assumes nothing.
-use Prim.Native.Nat.{ℕ, zero, suc, _+_, _-_, _*_, _/_, _^_, _≤_, _<_, min}
+use Prim.Native.Nat.{ℕ, _+_, _-_, _*_, _/_, _^_, _≤_, _<_, min}
 use native.Mathlib.Omega.{arith}
-use mathlib.Core.Path.{_≡_, refl, sym, subst, ap, _∙_}
+use mathlib.Core.Path.{_≡_, refl, subst, _∙_}
 use mathlib.Core.Bool.{Bool, true, false, cond, not, _&&_, _||_}
-use mathlib.Core.List.{List, [], _∷_, map}
+use mathlib.Core.List.{List}
 use lib.Dec.{T, ltb, leb, eqb, eqb→eq, leb→le, ltb→lt}
 use lib.ListN.{length, drop, length-drop}
-use borrow.Author.Tests.{le-ltb, ltb-false, not-false}
+use borrow.Author.Tests.{le-ltb, ltb-false}
 use Rattle.nr.specs.declared.RateMatching.{RateMatching}
 use Rattle.nr.specs.declared.RateMatching.the-variants.{Repetition, Puncturing, Shortening}
-use Rattle.nr.specs.Rows.{count, keep, has}
+use Rattle.nr.specs.Rows.{count, has}
 use Rattle.nr.specs.Numbers.{K, lengths}
 use Rattle.nr.specs.Answer.{refusal}
 use Rattle.nr.specs.Reliability.{reliability}
@@ -150,3 +150,7 @@ positions K E c = record {
 
     low : (p : ℕ) → T (has p best) → p < N K E
     low p h = ltb→lt p (N K E) (left (ltb p (N K E)) (not (has p (barred kind (N K E) E))) (passes p h))
+
+-- the same for A and E that none of 1 to 3 refuses
+pub accepted-positions : (A E : ℕ) → refusal A E ≡ 0 → Positions (K A) E
+accepted-positions A E e = positions (K A) E (accepted A E e)

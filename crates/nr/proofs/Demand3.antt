@@ -1,23 +1,21 @@
 -- Demand 3, whole, over `coding` and `decoding`; and that its hypotheses can be met.
 -- Assumes nothing.
-use Prim.Native.Nat.{ℕ, zero, suc, _+_, _-_, _*_, _^_, _≤_, _<_}
-use native.Mathlib.Nat.{suc-ne-zero, not-suc-le-zero, le-of-suc-le-suc, lt-of-not-le}
+use Prim.Native.Nat.{ℕ, zero, suc, _+_, _^_, _≤_, _<_}
+use native.Mathlib.Nat.{not-suc-le-zero, le-of-suc-le-suc, lt-of-not-le}
 use native.Mathlib.Decide.{decLe}
 use native.Mathlib.Omega.{arith}
 use mathlib.Core.Path.{_≡_, refl, sym, subst, ap, ap₂, _∙_}
-use mathlib.Core.Bool.{Bool, true, false, cond, not, _||_}
-use mathlib.Core.List.{List, [], _∷_, map}
-use lib.Dec.{T, ltb, eqb, leb, lt→ltb, ltb→lt}
+use mathlib.Core.Bool.{Bool, true, false, cond}
+use mathlib.Core.List.{List, map}
+use lib.Dec.{leb, ltb→lt}
 use lib.IntN.{ℤ, pos, negsuc, natAbs}
 use lib.Signed.{_<ℤ_, ltZ-yes, <ℤ-irrefl}
 use lib.ListN.{length, getD, take, length-map, replicate, length-replicate, List·getD-eq-default}
-use lib.Seq.{take-at}
-use borrow.Author.Tests.{le-ltb, lt-ltb, eq-eqb, leb-true, leb-false}
+use borrow.Author.Tests.{le-ltb, eq-eqb, leb-true, leb-false}
 use Rattle.nr.specs.declared.Numbers.{Numbers}
-use Rattle.nr.specs.declared.RateMatching.{RateMatching}
 use Rattle.nr.specs.declared.RateMatching.the-variants.{Repetition, Puncturing, Shortening}
-use Rattle.nr.specs.Rows.{count, has, first}
-use Rattle.nr.specs.Numbers.{K, lengths}
+use Rattle.nr.specs.Rows.{count, first}
+use Rattle.nr.specs.Numbers.{K}
 use Rattle.nr.specs.Answer.{refusal, refusalOf, Outcome, outcome}
 use Rattle.nr.specs.Parity.{attach, parityMatches}
 use Rattle.nr.specs.Construction.{n, N, lowRate, rateMatching, front, unsent, barred, Layout, layout}
@@ -31,7 +29,7 @@ use Rattle.nr.proofs.Rows.{first-none, getD-map, not-has-left}
 use Rattle.nr.proofs.Zip.{Bits, bits-replicate, bits-xors, length-xors}
 use Rattle.nr.proofs.Parity.{accepts, attach-front}
 use Rattle.nr.proofs.SuccessiveDecoder.{Sign}
-use Rattle.nr.proofs.Construction.{Clear, clear, Sized, accepted, Positions, positions}
+use Rattle.nr.proofs.Construction.{clear, Sized, accepted, positions}
 use Rattle.nr.proofs.Matching.{Fits, length-select}
 use Rattle.nr.proofs.Scrambling.{length-gold}
 use Rattle.nr.proofs.RoundTrip.{Sound, round-trip}

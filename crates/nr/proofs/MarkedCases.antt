@@ -2,11 +2,11 @@
 -- Assumes nothing.
 use Prim.Native.Nat.{ℕ, _*_}
 use mathlib.Core.Path.{_≡_, refl}
-use mathlib.Core.List.{List, [], _∷_, _++_}
-use lib.IntN.{ℤ, pos, negsuc}
+use mathlib.Core.List.{List, _∷_}
+use lib.IntN.{pos, negsuc}
 use lib.ListN.{length}
 use Rattle.nr.specs.declared.RateMatching.{RateMatching}
-use Rattle.nr.specs.declared.RateMatching.the-variants.{Repetition, Puncturing, Shortening}
+use Rattle.nr.specs.declared.RateMatching.the-variants.{Puncturing, Shortening}
 use Rattle.nr.specs.Rows.{count, keep, has}
 use Rattle.nr.specs.Numbers.{K}
 use Rattle.nr.specs.Answer.{refusal}

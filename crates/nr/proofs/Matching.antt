@@ -1,20 +1,20 @@
 -- Rate matching and scrambling undone: from soft values with the signs of the sent bits, the decoder's row is noiseless for the code word.
 -- Assumes nothing.
 use Prim.Native.Nat.{ℕ, zero, suc, _+_, _-_, _*_, _/_, _%_, _^_, _≤_, _<_}
-use native.Mathlib.Nat.{suc-add, suc-mul, suc-ne-zero, suc-inj, not-suc-le-zero, le-of-suc-le-suc, mod-lt, mod-eq-of-lt, add-mod-left, lt-of-not-le}
+use native.Mathlib.Nat.{suc-add, suc-mul, suc-ne-zero, not-suc-le-zero, le-of-suc-le-suc, mod-lt, mod-eq-of-lt, add-mod-left, lt-of-not-le}
 use native.Mathlib.Decide.{decLe}
 use native.Mathlib.Omega.{arith}
 use mathlib.Core.Path.{_≡_, refl, sym, subst, ap, ap₂, _∙_}
-use mathlib.Core.Bool.{Bool, true, false, not}
-use mathlib.Core.List.{List, [], _∷_, _++_, map, zipWith}
+use mathlib.Core.Bool.{Bool, true, false}
+use mathlib.Core.List.{List, [], _∷_, map}
 use lib.Dec.{T}
-use lib.IntN.{ℤ, pos, negsuc, negℤ, _+ℤ_, +ℤ-idl, +ℤ-idr}
-use lib.ListN.{length, getD, take, drop, replicate, length-take, length-drop, length-append, length-replicate, getD-replicate, List·getD-append}
-use lib.Seq.{getD-take, getD-drop, getD-append-add}
+use lib.IntN.{ℤ, pos, negℤ, _+ℤ_, +ℤ-idl, +ℤ-idr}
+use lib.ListN.{length, getD, take, drop, replicate, length-take, length-drop, length-replicate, getD-replicate, List·getD-append}
+use lib.Seq.{getD-take, getD-drop}
 use lib.Pow.{pow-pos}
 use Rattle.nr.specs.declared.RateMatching.{RateMatching}
 use Rattle.nr.specs.declared.RateMatching.the-variants.{Repetition, Puncturing, Shortening}
-use Rattle.nr.specs.Rows.{count, has, place, entries, xor}
+use Rattle.nr.specs.Rows.{count, has, place, xor}
 use Rattle.nr.specs.Construction.{J, unsent}
 use Rattle.nr.specs.Transform.{transform}
 use Rattle.nr.specs.RateMatching.{subBlocks, selected, select}

@@ -1,17 +1,16 @@
 -- Parity: long division leaves a remainder, what is attached makes a multiple of the generator, and the check accepts exactly the multiples.
 -- The RNTI added twice is nothing.
 -- Assumes nothing.
-use Prim.Native.Nat.{ℕ, zero, suc, _+_, _-_, _*_, _%_, _≤_, _<_}
+use Prim.Native.Nat.{ℕ, zero, suc, _+_, _-_, _*_, _%_, _≤_}
 use native.Mathlib.Nat.{mul-one, suc-ne-zero, suc-inj, not-suc-le-zero, le-of-suc-le-suc}
 use native.Mathlib.Omega.{arith}
 use mathlib.Core.Path.{_≡_, refl, sym, subst, ap, ap₂, _∙_}
 use mathlib.Core.Logic.{_↔_}
-use mathlib.Core.Bool.{Bool}
 use mathlib.Core.List.{List, [], _∷_, _++_, zipWith, append-assoc}
 use lib.Dec.{T, eqb}
 use lib.ListN.{length, getD, take, drop, replicate, length-append, length-drop, length-replicate, take-append-drop}
 use lib.Seq.{take-at, drop-at, length-take-le}
-use Rattle.nr.specs.Rows.{same, msbFirst, xor, xors, count, keep}
+use Rattle.nr.specs.Rows.{msbFirst, xor, xors, count, keep}
 use Rattle.nr.specs.Parity.{generator, addTimes, divide, remainder, parity, attach, maskRnti, parityMatches}
 use Rattle.nr.proofs.Rows.{same-refl, same-eq}
 use Rattle.nr.proofs.Zip.{Bits, bits-append, bits-take, bits-drop, bits-replicate, bits-xors, bits-msbFirst, length-msbFirst, length-xors, xors-back, xor-swap, xors-comm, xors-zeros, cons, zipWith-append}

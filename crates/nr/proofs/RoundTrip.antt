@@ -1,29 +1,29 @@
 -- Coding undone by decoding, for any layout whose information positions ascend, lie below N and are all sent.
 -- Assumes nothing.
-use Prim.Native.Nat.{ℕ, zero, suc, _+_, _-_, _^_, _≤_, _<_}
+use Prim.Native.Nat.{ℕ, _+_, _-_, _^_, _≤_, _<_}
 use native.Mathlib.Omega.{arith}
 use mathlib.Core.Path.{_≡_, refl, sym, subst, ap, _∙_}
 use mathlib.Core.Bool.{Bool, true, false, cond, not}
-use mathlib.Core.List.{List, [], _∷_, map, zipWith}
+use mathlib.Core.List.{List, map}
 use lib.Dec.{T, T-not}
 use lib.IntN.{ℤ, pos}
 use lib.ListN.{length, getD, length-map, List·getD-eq-default}
 use lib.Seq.{ext-getD}
 use Rattle.nr.specs.declared.RateMatching.{RateMatching}
 use Rattle.nr.specs.declared.RateMatching.the-variants.{Repetition, Puncturing, Shortening}
-use Rattle.nr.specs.Rows.{count, has, place, entries, xor, xors}
+use Rattle.nr.specs.Rows.{count, has, place, entries}
 use Rattle.nr.specs.Parity.{attach, maskRnti}
 use Rattle.nr.specs.Interleaver.{interleave, deinterleave}
-use Rattle.nr.specs.Construction.{J, unsent, Layout}
+use Rattle.nr.specs.Construction.{unsent, Layout}
 use Rattle.nr.specs.Transform.{transform}
 use Rattle.nr.specs.RateMatching.{select}
 use Rattle.nr.specs.Scrambling.{gold}
-use Rattle.nr.specs.SuccessiveDecoder.{negateIf, descramble, codeRow, successive, marks}
+use Rattle.nr.specs.SuccessiveDecoder.{negateIf, descramble, codeRow, marks}
 use Rattle.nr.specs.Coding.{placed, codeWord, coded}
 use Rattle.nr.specs.Decoding.{decided, received}
-use Rattle.nr.proofs.Tests.{ascending, distinct, isn't, is, holds, clash}
+use Rattle.nr.proofs.Tests.{ascending, holds}
 use Rattle.nr.proofs.Rows.{length-count, length-table, getD-table, length-entries, getD-entries, has-getD, place-absent, place-getD, ascending-distinct}
-use Rattle.nr.proofs.Zip.{Bits, bits-entries, length-zipWith, getD-zipWith, length-xors, getD-xors, bits-xors}
+use Rattle.nr.proofs.Zip.{Bits, bits-entries, length-zipWith, getD-zipWith, getD-xors}
 use Rattle.nr.proofs.Parity.{length-attach, bits-attach, length-maskRnti, bits-maskRnti, maskRnti-twice}
 use Rattle.nr.proofs.Interleaver.{length-interleave, bits-interleave, deinterleave-interleave}
 use Rattle.nr.proofs.Transform.{Each, Down, bits-transform}

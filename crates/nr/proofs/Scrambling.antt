@@ -1,10 +1,9 @@
 -- The Gold sequence: E bits, which the registers make by the recurrences of 38.211 5.2.1.
 -- Assumes nothing.
 use Prim.Native.Nat.{ℕ, zero, suc, _+_, _-_, _*_, _/_, _%_, _^_, _≤_, _<_}
-use native.Mathlib.Nat.{pow-suc, not-suc-le-zero, le-of-suc-le-suc, div-eq-of-lt, add-mul-div-right, mul-assoc, mul-comm, pow-succ', suc-add}
+use native.Mathlib.Nat.{not-suc-le-zero, le-of-suc-le-suc, div-eq-of-lt, add-mul-div-right, mul-assoc, mul-comm, pow-succ', suc-add}
 use native.Mathlib.Omega.{arith}
-use mathlib.Core.Path.{_≡_, refl, sym, subst, ap, ap₂, _∙_}
-use mathlib.Core.List.{List, [], _∷_}
+use mathlib.Core.Path.{_≡_, refl, sym, ap, ap₂, _∙_}
 use lib.ListN.{length, getD}
 use lib.Pow.{pow-pos, pow-add, shr-shr}
 use Rattle.nr.specs.Rows.{bit}

@@ -1,14 +1,14 @@
 -- The sub-block interleaver at every code length 2 ^ (k + 5): J's inverse, that it rises with each bit of the position, and
 -- therefore that the punctured positions are closed under clearing bits and the shortened under setting them, for every count.
 -- Assumes nothing.
-use Prim.Native.Nat.{ℕ, zero, suc, _+_, _-_, _*_, _/_, _%_, _^_, _≤_, _<_}
+use Prim.Native.Nat.{ℕ, _+_, _-_, _*_, _/_, _%_, _^_, _≤_, _<_}
 use native.Mathlib.Nat.{mul-comm, mul-div-mul-left, mul-div-cancel, div-add-mod', mod-lt, mod-eq-sub-div-mul, add-div-right, add-mul-div-left, add-mul-mod-self-left, mul-le-mul-right, add-le-add, le-refl, div-lt-iff-lt-mul}
 use native.Mathlib.Omega.{arith}
 use mathlib.Core.Path.{_≡_, refl, sym, subst, ap, ap₂, _∙_}
 use mathlib.Core.Bool.{Bool, true, false, _&&_, _||_}
-use mathlib.Core.List.{List, map}
+use mathlib.Core.List.{map}
 use lib.Dec.{T, eqb, leb, ltb, eqb→eq, ltb→lt, leb→le}
-use lib.ListN.{length, getD}
+use lib.ListN.{getD}
 use lib.Arith.{digits-div, digits-mod, digits-lt}
 use lib.Pow.{pow-pos, pow-add, shr-shr, pow-mono}
 use borrow.Author.Tests.{ltb-true, ltb-false}

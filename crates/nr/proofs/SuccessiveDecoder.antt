@@ -1,12 +1,12 @@
 -- The successive decoder, once for every n: it finds the word of every noiseless row, with positions that were never sent;
 -- and what it gives on any row.
 -- Assumes nothing.
-use Prim.Native.Nat.{ℕ, zero, suc, _+_, _-_, _%_, _^_, _≤_, _<_}
+use Prim.Native.Nat.{ℕ, zero, suc, _+_, _^_, _≤_, _<_}
 use native.Mathlib.Nat.{pow-suc, zero-min, suc-min-suc, suc-add, suc-ne-zero, suc-inj, not-suc-le-zero, le-of-suc-le-suc}
 use native.Mathlib.Omega.{arith}
 use mathlib.Core.Path.{_≡_, refl, sym, ap, _∙_, subst}
 use mathlib.Core.Bool.{Bool, true, false}
-use mathlib.Core.List.{List, [], _∷_, _++_, zipWith}
+use mathlib.Core.List.{List, [], _∷_, _++_}
 use lib.Dec.{T}
 use lib.IntN.{ℤ, pos, negsuc, +ℤ-idr}
 use lib.ListN.{length, getD, take, drop, length-append, take-append-drop}

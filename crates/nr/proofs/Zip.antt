@@ -1,13 +1,12 @@
 -- Two rows taken place by place, and rows of bits.
 -- Assumes nothing.
-use Prim.Native.Nat.{ℕ, zero, suc, _+_, _-_, _%_, _≤_, _<_}
+use Prim.Native.Nat.{ℕ, zero, suc, _+_, _%_, _≤_, _<_}
 use native.Mathlib.Nat.{suc-ne-zero, suc-inj, not-suc-le-zero, le-of-suc-le-suc}
 use native.Mathlib.Omega.{arith}
 use mathlib.Core.Path.{_≡_, refl, sym, ap, ap₂, _∙_}
 use mathlib.Core.List.{List, [], _∷_, _++_, zipWith}
 use lib.ListN.{length, getD, take, drop, replicate}
-use lib.Seq.{ext-getD}
-use Rattle.nr.specs.Rows.{entries, bit, msbFirst, xor, xors}
+use Rattle.nr.specs.Rows.{entries, msbFirst, xor, xors}
 
 module _ {A B C : Type 0} (h : A → B → C) where
   pub length-zipWith : (a : List A) (b : List B) (n : ℕ) → length a ≡ n → length b ≡ n → length (zipWith h a b) ≡ n

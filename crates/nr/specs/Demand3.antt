@@ -8,7 +8,7 @@ use lib.IntN.{ℤ, pos, natAbs}
 use lib.Signed.{_<ℤ_}
 use lib.ListN.{length, getD}
 use Rattle.nr.specs.declared.Numbers.{Numbers}
-use Rattle.nr.specs.Answer.{refusal, Outcome}
+use Rattle.nr.specs.Answer.{refusal}
 use Rattle.nr.specs.Coding.{coding}
 use Rattle.nr.specs.Decoding.{decoding}
 

@@ -1,9 +1,9 @@
 -- Document 01, "Input interleaver" (38.212 Table 5.3.1.1-1).
 -- Assumes nothing.
 use Prim.Native.Nat.{ℕ, _-_}
-use mathlib.Core.List.{List, [], _∷_, map}
+use mathlib.Core.List.{List, _∷_, map}
 use lib.Dec.{leb}
-use lib.ListN.{length, getD}
+use lib.ListN.{length}
 use Rattle.nr.specs.Rows.{count, keep, place, entries}
 
 -- the table, for K = 164

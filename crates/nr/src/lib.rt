@@ -8,21 +8,29 @@ pub struct Numbers {
     pub n_id: u16,
 }
 
-// How E coded bits come from N code positions.
+// How E coded bits are made of N code bits (38.212 5.4.1).
 pub enum RateMatching {
     Repetition,
     Puncturing,
     Shortening,
 }
 
-// What a call gives back; `number` and `place` of specs/Answer.antt give document 01's number for each.
+// What a call answers. `number` and `placeOf` of specs/Answer.antt give document 01's number and place for each.
 pub enum Answer {
+    // 0: the output holds the result.
     Done,
+    // 1: A outside 12..140.
     PayloadSize,
+    // 2: E is none of the coded lengths.
     CodedLength,
+    // 3: K > E.
     TooManyBits,
+    // 4: the input's length.
     InputLength,
+    // 5: the output's length.
     OutputLength,
+    // 6: a payload byte above 1 or a soft value outside -127..127, with the place of the first.
     BadEntry(usize),
+    // 7: decoding ran, the parity does not match.
     ParityMismatch,
 }
