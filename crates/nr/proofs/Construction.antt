@@ -11,8 +11,8 @@ use borrow.Author.Tests.{le-ltb, ltb-false}
 use Rattle.nr.specs.declared.RateMatching.{RateMatching}
 use Rattle.nr.specs.declared.RateMatching.the-variants.{Repetition, Puncturing, Shortening}
 use Rattle.nr.specs.Rows.{count, has}
-use Rattle.nr.specs.Numbers.{K, lengths}
-use Rattle.nr.specs.Answer.{refusal}
+use Rattle.nr.specs.Numbers.{K}
+use Rattle.nr.specs.Answer.{lengths, refusal, refusalOf}
 use Rattle.nr.specs.Reliability.{reliability}
 use Rattle.nr.specs.Construction.{log2up, n1, n2, n, N, lowRate, rateMatching, P, J, unsent, front, barred, free, chosen, layout}
 use Rattle.nr.proofs.Tests.{all, distinct, ascending, left, right, holds, all-has, all-count}
@@ -36,6 +36,18 @@ clear A E e = go (ltb A 12 || ltb 140 A) refl (has E lengths) refl (ltb E (K A))
     go false p false q c r e = let z : ⊥ = omega arith in absurd z
     go false p true q true r e = let z : ⊥ = omega arith in absurd z
     go false p true q false r e = record { size = p; length = q; room = r }
+
+-- what none of 1 to 6 refuses, none of 1 to 3 does
+pub refusal-none : {X : Type 0} (A E : ℕ) (bad : X → Bool) (input : List X) (asked : ℕ) (out : List ℕ) (wanted : ℕ)
+    → refusalOf A E bad input asked out wanted ≡ 0 → refusal A E ≡ 0
+unfolding refusal refusalOf
+refusal-none A E bad input asked out wanted = go (ltb A 12 || ltb 140 A) (not (has E lengths)) (ltb E (K A)) _
+  where
+    go : (a b c : Bool) (more : ℕ) → _≡_ {A = ℕ} (cond a 1 (cond b 2 (cond c 3 more))) 0 → _≡_ {A = ℕ} (cond a 1 (cond b 2 (cond c 3 0))) 0
+    go true b c more e = e
+    go false true c more e = e
+    go false false true more e = e
+    go false false false more e = refl
 
 -- the same in the terms of K
 pub record Sized (K E : ℕ) : Type 0 where

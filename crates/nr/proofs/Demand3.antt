@@ -1,10 +1,11 @@
 -- Demand 3, whole, over `coding` and `decoding`; and that its hypotheses can be met.
 -- Assumes nothing.
-use Prim.Native.Nat.{ℕ, zero, suc, _+_, _^_, _≤_, _<_}
-use native.Mathlib.Nat.{not-suc-le-zero, le-of-suc-le-suc, lt-of-not-le}
+use Prim.Native.Nat.{ℕ, zero, suc, _+_, _≤_, _<_}
+use native.Mathlib.Nat.{suc-ne-zero, not-suc-le-zero, le-of-suc-le-suc, lt-of-not-le}
 use native.Mathlib.Decide.{decLe}
 use native.Mathlib.Omega.{arith}
 use mathlib.Core.Path.{_≡_, refl, sym, subst, ap, ap₂, _∙_}
+use mathlib.Core.Logic.{_≢_}
 use mathlib.Core.Bool.{Bool, true, false, cond}
 use mathlib.Core.List.{List, map}
 use lib.Dec.{leb, ltb→lt}
@@ -19,20 +20,18 @@ use Rattle.nr.specs.Numbers.{K}
 use Rattle.nr.specs.Answer.{refusal, refusalOf, Outcome, outcome}
 use Rattle.nr.specs.Parity.{attach, parityMatches}
 use Rattle.nr.specs.Construction.{n, N, lowRate, rateMatching, front, unsent, barred, Layout, layout}
-use Rattle.nr.specs.RateMatching.{select}
-use Rattle.nr.specs.Scrambling.{gold, cInit}
-use Rattle.nr.specs.Coding.{codeWord, coded, badByte, codingFor, coding}
+use Rattle.nr.specs.Scrambling.{cInit}
+use Rattle.nr.specs.Coding.{coded, badByte, codingFor, coding}
 use Rattle.nr.specs.Decoding.{received, orParity, badSoft, decodingFor, decoding}
 use Rattle.nr.specs.Demand3.{Accepted, Payload, Noiseless, Demand3, HypothesesMet}
 use Rattle.nr.proofs.Tests.{is}
 use Rattle.nr.proofs.Rows.{first-none, getD-map, not-has-left}
-use Rattle.nr.proofs.Zip.{Bits, bits-replicate, bits-xors, length-xors}
+use Rattle.nr.proofs.Zip.{Bits, bits-replicate}
 use Rattle.nr.proofs.Parity.{accepts, attach-front}
 use Rattle.nr.proofs.SuccessiveDecoder.{Sign}
 use Rattle.nr.proofs.Construction.{clear, Sized, accepted, positions}
-use Rattle.nr.proofs.Matching.{Fits, length-select}
-use Rattle.nr.proofs.Scrambling.{length-gold}
-use Rattle.nr.proofs.RoundTrip.{Sound, round-trip}
+use Rattle.nr.proofs.Gather.{Fits}
+use Rattle.nr.proofs.RoundTrip.{length-coded, bits-coded, Sound, round-trip}
 
 -- ---- document 01's layout is sound
 
@@ -87,16 +86,6 @@ module _ (s : Numbers) (payload : List ℕ) (a : Accepted s) (p : Payload s payl
     | no h ↦ p .bits k (lt-of-not-le h)
   ]
 
-  bits-sent : Bits sent
-  unfolding coded
-  bits-sent = bits-xors (select (l .kind) (2 ^ l .n) (s .e) (codeWord l (s .rnti) payload)) (gold (cInit s) (s .e))
-
-  length-sent : length sent ≡ s .e
-  unfolding coded
-  length-sent =
-      length-xors (s .e) (select (l .kind) (2 ^ l .n) (s .e) (codeWord l (s .rnti) payload)) (gold (cInit s) (s .e))
-      (length-select (l .kind) (2 ^ l .n) (s .e) (codeWord l (s .rnti) payload)) (length-gold (cInit s) (s .e))
-
   coding-is : (out : List ℕ) → length out ≡ s .e → coding s payload out ≡ record { number = 0; place = 0; buffer = sent }
   unfolding coding codingFor outcome badByte
   coding-is out e =
@@ -108,7 +97,7 @@ module _ (s : Numbers) (payload : List ℕ) (a : Accepted s) (p : Payload s payl
 
   module _ (soft : List ℤ) (out′ : List ℕ) (clean : Noiseless s sent soft) (e : length out′ ≡ s .a) where
     signs : (j : ℕ) → j < s .e → Sign (getD soft j (pos 0)) (getD sent j 0)
-    signs j h = sign (getD soft j (pos 0)) (getD sent j 0) (bits-sent j) (clean .positive j h) (clean .negative j h)
+    signs j h = sign (getD soft j (pos 0)) (getD sent j 0) (bits-coded l (s .e) (s .rnti) (cInit s) payload j) (clean .positive j h) (clean .negative j h)
       where
         sign : (x : ℤ) (d : ℕ) → d ≤ 1 → (d ≡ 0 → pos 0 <ℤ x) → (d ≡ 1 → x <ℤ pos 0) → Sign x d
         sign (pos zero) zero h p m = absurd (<ℤ-irrefl (p refl))
@@ -160,12 +149,17 @@ unfolding strongest
 strongest-row s sent e = record {
   size = length-map sent strongest ∙ e;
   range = λ k h. rw (value k h) (range (getD sent k 0));
+  nonzero = λ k h. rw (value k h) (nonzero (getD sent k 0));
   positive = λ k h z. rw (value k h, z) (ltZ-yes tt);
   negative = λ k h z. rw (value k h, z) (ltZ-yes tt);
 }
   where
     value : (k : ℕ) → k < s .e → getD (map strongest sent) k (pos 0) ≡ strongest (getD sent k 0)
     value k h = getD-map strongest sent k 0 (pos 0) (omega arith)
+
+    nonzero : (b : ℕ) → strongest b ≢ pos 0
+    nonzero zero e = let z : _≡_ {A = ℕ} 127 0 = ap natAbs e in suc-ne-zero 126 z
+    nonzero (suc b) e = let z : _≡_ {A = ℕ} 127 0 = ap natAbs e in suc-ne-zero 126 z
 
     range : (b : ℕ) → natAbs (strongest b) ≤ 127
     range zero = omega arith
@@ -182,5 +176,5 @@ hypotheses-met = record {
   );
   row = λ s payload out a p e.
       let sent : List ℕ = coding s payload out .buffer in
-      (map strongest sent, strongest-row s sent (ap (λ (o : Outcome). length (o .buffer)) (coding-is s payload a p out e) ∙ length-sent s payload a p));
+      (map strongest sent, strongest-row s sent (ap (λ (o : Outcome). length (o .buffer)) (coding-is s payload a p out e) ∙ length-coded (layout (K (s .a)) (s .e)) (s .e) (s .rnti) (cInit s) payload));
 }

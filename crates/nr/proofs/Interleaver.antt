@@ -106,6 +106,10 @@ pub bits-interleave : (c : List ℕ) → Bits c → Bits (interleave c)
 unfolding interleave
 bits-interleave c b = bits-entries (pattern (length c)) c b
 
+pub length-deinterleave : (row : List ℕ) → length (deinterleave row) ≡ length row
+unfolding deinterleave
+length-deinterleave row = length-entries (map _ (count 0 (length row))) row ∙ length-table _ 0 (length row)
+
 pub deinterleave-interleave : (c : List ℕ) → length c ≤ 164 → deinterleave (interleave c) ≡ c
 unfolding interleave deinterleave
 deinterleave-interleave c h =

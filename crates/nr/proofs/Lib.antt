@@ -8,6 +8,7 @@ pub mod SubBlocks
 pub mod Construction
 pub mod Interleaver
 pub mod Parity
+pub mod Gather
 pub mod Matching
 pub mod Scrambling
 pub mod RoundTrip

@@ -1,109 +1,29 @@
 -- Rate matching and scrambling undone: from soft values with the signs of the sent bits, the decoder's row is noiseless for the code word.
 -- Assumes nothing.
-use Prim.Native.Nat.{ℕ, zero, suc, _+_, _-_, _*_, _/_, _%_, _^_, _≤_, _<_}
-use native.Mathlib.Nat.{suc-add, suc-mul, suc-ne-zero, not-suc-le-zero, le-of-suc-le-suc, mod-lt, mod-eq-of-lt, add-mod-left, lt-of-not-le}
+use Prim.Native.Nat.{ℕ, zero, suc, _+_, _-_, _^_, _≤_, _<_}
+use native.Mathlib.Nat.{suc-ne-zero, not-suc-le-zero, le-of-suc-le-suc, mod-eq-of-lt, lt-of-not-le}
 use native.Mathlib.Decide.{decLe}
 use native.Mathlib.Omega.{arith}
-use mathlib.Core.Path.{_≡_, refl, sym, subst, ap, ap₂, _∙_}
+use mathlib.Core.Path.{_≡_, refl, sym, subst, ap, _∙_}
 use mathlib.Core.Bool.{Bool, true, false}
-use mathlib.Core.List.{List, [], _∷_, map}
+use mathlib.Core.List.{List, map}
 use lib.Dec.{T}
-use lib.IntN.{ℤ, pos, negℤ, _+ℤ_, +ℤ-idl, +ℤ-idr}
-use lib.ListN.{length, getD, take, drop, replicate, length-take, length-drop, length-replicate, getD-replicate, List·getD-append}
-use lib.Seq.{getD-take, getD-drop}
-use lib.Pow.{pow-pos}
+use lib.IntN.{ℤ, pos, negℤ}
+use lib.ListN.{length, getD}
 use Rattle.nr.specs.declared.RateMatching.{RateMatching}
 use Rattle.nr.specs.declared.RateMatching.the-variants.{Repetition, Puncturing, Shortening}
 use Rattle.nr.specs.Rows.{count, has, place, xor}
 use Rattle.nr.specs.Construction.{J, unsent}
 use Rattle.nr.specs.Transform.{transform}
 use Rattle.nr.specs.RateMatching.{subBlocks, selected, select}
-use Rattle.nr.specs.SuccessiveDecoder.{negateIf, plus, addUp, certain, gather, codeRow}
+use Rattle.nr.specs.SuccessiveDecoder.{negateIf, plus, certain, gather, codeRow}
 use Rattle.nr.proofs.Tests.{holds, is, clash}
-use Rattle.nr.proofs.Rows.{length-table, getD-table, length-entries, getD-entries, getD-behind}
+use Rattle.nr.proofs.Rows.{length-table, getD-table, length-entries, getD-entries}
 use Rattle.nr.proofs.Zip.{Bits, bits-entries}
 use Rattle.nr.proofs.Transform.{Each, transform-zero}
 use Rattle.nr.proofs.SuccessiveDecoder.{Sign, Soft, Clean}
+use Rattle.nr.proofs.Gather.{Fits, zero-first, gather-adds, gather-punctured, gather-shortened, added-sign}
 use Rattle.nr.proofs.SubBlocks.{rank, rank-lt, J-rank, place-J, found, finds, shortened-up}
-
--- what the kind says of N and E
-abbrev pub Fits : RateMatching → ℕ → ℕ → Type 0
-Fits Repetition N E = N ≤ E
-Fits Puncturing N E = E < N
-Fits Shortening N E = E < N
-
--- each value of a row has the sign of a bit that depends on the place
-abbrev Signs : List ℤ → (ℕ → ℕ) → Type 0
-Signs row bit = (k : ℕ) → k < length row → Sign (getD row k (pos 0)) (bit k)
-
--- ---- repeats add up
-
--- h 0 + .. + h (k - 1)
-unfoldable pub sum : ℕ → (ℕ → ℤ) → ℤ
-sum zero h = pos 0
-sum (suc k) h = h 0 +ℤ sum k (λ j. h (suc j))
-
-sum-cong : (k : ℕ) (h g : ℕ → ℤ) → ((j : ℕ) → h j ≡ g j) → sum k h ≡ sum k g
-unfolding sum
-sum-cong zero h g e = refl
-sum-cong (suc k) h g e = ap₂ _+ℤ_ (e 0) (sum-cong k (λ j. h (suc j)) (λ j. g (suc j)) (λ j. e (suc j)))
-
-plus-at : (a b : List ℤ) (i : ℕ) → getD (plus a b) i (pos 0) ≡ getD a i (pos 0) +ℤ getD b i (pos 0)
-plus-at [] b i = sym (+ℤ-idl (getD b i (pos 0)))
-plus-at (x ∷ a) [] i = sym (+ℤ-idr (getD (x ∷ a) i (pos 0)))
-plus-at (x ∷ a) (y ∷ b) zero = refl
-plus-at (x ∷ a) (y ∷ b) (suc i) = plus-at a b i
-
--- place i has the sum of the values at i, N + i, 2 N + i, ..
-pub addUp-at : (N pieces : ℕ) (row : List ℤ) (i : ℕ) → i < N → getD (addUp N pieces row) i (pos 0) ≡ sum pieces (λ j. getD row (j * N + i) (pos 0))
-unfolding addUp sum
-addUp-at N zero row i h = refl
-addUp-at N (suc pieces) row i h =
-    plus-at (take N row) (addUp N pieces (drop N row)) i
-    ∙ ap₂ _+ℤ_ (getD-take N row i (pos 0) h ∙ ap (λ (k : ℕ). getD row k (pos 0)) (front N i))
-    (addUp-at N pieces (drop N row) i h
-    ∙ sum-cong pieces (λ j. getD (drop N row) (j * N + i) (pos 0)) (λ j. getD row (suc j * N + i) (pos 0))
-    (λ j. getD-drop N row (j * N + i) (pos 0) ∙ ap (λ (k : ℕ). getD row k (pos 0)) (next N i j)))
-  where
-    front : (N i : ℕ) → i ≡ 0 * N + i
-    front N i = omega arith
-
-    next : (N i j : ℕ) → N + (j * N + i) ≡ suc j * N + i
-    next N i j = let e = suc-mul j N in omega arith
-
-sign-sum : {x y : ℤ} {d : ℕ} → Sign x d → Sign y d → Sign (x +ℤ y) d
-sign-sum (Sign.plus) (Sign.plus) = rw suc-add Sign.plus
-sign-sum (Sign.minus) (Sign.minus) = Sign.minus
-
-plus-signs : (a b : List ℤ) (bit : ℕ → ℕ) → Signs a bit → Signs b bit → Signs (plus a b) bit
-plus-signs [] b bit p q k h = q k h
-plus-signs (x ∷ a) [] bit p q k h = p k h
-plus-signs (x ∷ a) (y ∷ b) bit p q zero h = sign-sum (p 0 (omega arith)) (q 0 (omega arith))
-plus-signs (x ∷ a) (y ∷ b) bit p q (suc k) h =
-    plus-signs a b (λ i. bit (suc i)) (λ i l. p (suc i) (omega arith)) (λ i l. q (suc i) (omega arith)) k (le-of-suc-le-suc h)
-
-length-plus : (a b : List ℤ) → length a ≤ length (plus a b)
-length-plus [] b = omega arith
-length-plus (x ∷ a) [] = omega arith
-length-plus (x ∷ a) (y ∷ b) = let l = length-plus a b in omega arith
-
-module _ (N : ℕ) (pos-N : 0 < N) (bit : ℕ → ℕ) where
-  addUp-signs : (pieces : ℕ) (row : List ℤ) → Signs row (λ k. bit (k % N)) → Signs (addUp N pieces row) bit
-  unfolding addUp
-  addUp-signs zero row s k h = absurd (not-suc-le-zero h)
-  addUp-signs (suc pieces) row s k₀ h₀ =
-      plus-signs (take N row) (addUp N pieces (drop N row)) bit front (addUp-signs pieces (drop N row) behind) k₀ h₀
-    where
-      front : Signs (take N row) bit
-      front k h =
-          let l : k < N = omega (arith, length-take N row) in
-          let m : k < length row = omega (arith, length-take N row) in
-          rw (getD-take N row k (pos 0) l) (subst (λ (j : ℕ). Sign (getD row k (pos 0)) (bit j)) (mod-eq-of-lt l) (s k m))
-
-      behind : Signs (drop N row) (λ k. bit (k % N))
-      behind k h =
-          rw (getD-drop N row k (pos 0))
-          (subst (λ (j : ℕ). Sign (getD row (N + k) (pos 0)) (bit j)) (add-mod-left N k) (s (N + k) (omega (arith, length-drop N row))))
 
 -- ---- the sent bits
 
@@ -163,23 +83,18 @@ module _ (k E : ℕ) (u : List ℕ) (soft : List ℤ) (le : length soft ≡ E) w
   abbrev d : List ℕ
   d = transform (k + 5) u
 
-  repeated : 2 ^ (k + 5) ≤ E → Sent Repetition → (i : ℕ) → i < 2 ^ (k + 5) → Sign (getD (gather Repetition (2 ^ (k + 5)) E soft) i (pos 0)) (bitAt k E d i)
-  unfolding gather addUp selected
-  repeated fits s i h =
+  -- what was gathered for a place that was sent has the sign of its code bit
+  value : (kind : RateMatching) → Fits kind (2 ^ (k + 5)) E → Sent kind → (i j : ℕ) → i < 2 ^ (k + 5) → j < E → selected kind (2 ^ (k + 5)) E j ≡ i
+      → Sign (getD (gather kind (2 ^ (k + 5)) E soft) i (pos 0)) (bitAt k E d i)
+  value kind fits s i j h hj e =
       let N : ℕ = 2 ^ (k + 5) in
-      let l : i < length (addUp N (suc (E / N)) soft) =
-      omega (arith, length-plus (take N soft) (addUp N (E / N) (drop N soft)), length-take N soft) in
-      addUp-signs N (pow-pos (k + 5)) (bitAt k E d) (suc (E / N)) soft
-      (λ j m.
-      let je : j < E = omega arith in
-      subst (λ (b : ℕ). Sign (getD soft j (pos 0)) b) (select-at k E d Repetition j je (mod-lt j (pow-pos (k + 5)))) (s j je))
-      i l
-
-  one : (kind : RateMatching) → Sent kind → (j i : ℕ) → j < E → i < 2 ^ (k + 5) → selected kind (2 ^ (k + 5)) E j ≡ i
-      → Sign (getD soft j (pos 0)) (bitAt k E d i)
-  one kind s j i h l e =
-      subst (λ (b : ℕ). Sign (getD soft j (pos 0)) b)
-      (select-at k E d kind j h (subst (λ (m : ℕ). m < 2 ^ (k + 5)) (sym e) l) ∙ ap (bitAt k E d) e) (s j h)
+      rw (gather-adds kind N E soft le fits i j h hj e)
+      (added-sign (selected kind N E) i (bitAt k E d i) 0 soft
+      (λ m l q.
+      let w : selected kind N E m ≡ i = ap (selected kind N E) (zero-first m) ∙ q in
+      subst (λ (b : ℕ). Sign (getD soft m (pos 0)) b)
+      (select-at k E d kind m (omega arith) (subst (λ (x : ℕ). x < N) (sym w) h) ∙ ap (bitAt k E d) w) (s m (omega arith)))
+      j (omega arith) (ap (selected kind N E) (sym (zero-first j)) ∙ e))
 
   -- u is 0 where it is never sent
   abbrev pub Unused : RateMatching → Type 0
@@ -191,9 +106,10 @@ module _ (k E : ℕ) (u : List ℕ) (soft : List ℤ) (le : length soft ≡ E) w
 
     pub codeRow-clean : (kind : RateMatching) → Fits kind (2 ^ (k + 5)) E → Unused kind → Sent kind
         → Clean (k + 5) (punctured kind (2 ^ (k + 5)) E) (codeRow kind (2 ^ (k + 5)) E soft) d
-    unfolding unsent gather selected
+    unfolding unsent selected
     codeRow-clean Repetition fits un s p h =
-        rw (codeRow-at Repetition p h, ← (at-position p h)) (repeated fits s (rank k p) (rank-lt k p h))
+        let r : rank k p < 2 ^ (k + 5) = rank-lt k p h in
+        rw (codeRow-at Repetition p h, ← (at-position p h)) (value Repetition fits s (rank k p) (rank k p) r (omega arith) (mod-eq-of-lt r))
     codeRow-clean Puncturing fits un s p h =
         rw (codeRow-at Puncturing p h, ← (at-position p h)) (go (has p (unsent Puncturing N E)) refl)
       where
@@ -204,15 +120,11 @@ module _ (k E : ℕ) (u : List ℕ) (soft : List ℤ) (le : length soft ≡ E) w
         i = rank k p
 
         go : (b : Bool) → has p (unsent Puncturing N E) ≡ b → Soft b (getD (gather Puncturing N E soft) i (pos 0)) (bitAt k E d i)
-        go true e =
-            let l : i < N - E = omega (arith, found k 0 (N - E) (omega arith) p (holds e) .1) in
-            List·getD-append (replicate (N - E) (pos 0)) soft (pos 0) i (subst (λ (m : ℕ). i < m) (sym (length-replicate (N - E) (pos 0))) l)
-            ∙ getD-replicate (N - E) i (pos 0) (pos 0) l
+        go true e = gather-punctured N E soft i (omega (arith, found k 0 (N - E) (omega arith) p (holds e) .1))
         go false e =
             let r : i < N = rank-lt k p h in
             let l : N - E ≤ i = elim (decLe (N - E) i) [ yes m ↦ m | no m ↦ clash (is (has p (unsent Puncturing N E)) (finds k 0 (N - E) p h (omega arith) (omega (arith, lt-of-not-le m)))) e ] in
-            rw (getD-behind (replicate (N - E) (pos 0)) soft (N - E) i (pos 0) (length-replicate (N - E) (pos 0)) l)
-            (one Puncturing s (i - (N - E)) i (omega arith) r (omega arith))
+            value Puncturing fits s i (i - (N - E)) r (omega arith) (omega arith)
     codeRow-clean Shortening fits un s p h = rw (codeRow-at Shortening p h) (go (has p (unsent Shortening N E)) refl)
       where
         N : ℕ
@@ -227,12 +139,11 @@ module _ (k E : ℕ) (u : List ℕ) (soft : List ℤ) (le : length soft ≡ E) w
             let r : i < N = rank-lt k p h in
             let z : getD d p 0 ≡ 0 =
             transform-zero (k + 5) u (λ q. has q (unsent Shortening N E)) lu (shortened-up k E (omega arith)) un p h (holds e) in
-            rw (z, getD-behind soft (replicate (N - E) certain) E i (pos 0) le l, getD-replicate (N - E) (i - E) certain (pos 0) (omega arith))
-            certain-sign
+            rw (z, gather-shortened N E soft i le l r) certain-sign
         go false e =
             let r : i < N = rank-lt k p h in
             let l : i < E = elim (decLe E i) [ no m ↦ lt-of-not-le m | yes m ↦ clash (is (has p (unsent Shortening N E)) (finds k E (N - E) p h m (omega arith))) e ] in
-            rw (List·getD-append soft (replicate (N - E) certain) (pos 0) i (omega arith), ← (at-position p h)) (one Shortening s i i l r refl)
+            rw (← (at-position p h)) (value Shortening fits s i i r l refl)
 
 -- ---- scrambling
 

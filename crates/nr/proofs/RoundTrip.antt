@@ -23,13 +23,14 @@ use Rattle.nr.specs.Coding.{placed, codeWord, coded}
 use Rattle.nr.specs.Decoding.{decided, received}
 use Rattle.nr.proofs.Tests.{ascending, holds}
 use Rattle.nr.proofs.Rows.{length-count, length-table, getD-table, length-entries, getD-entries, has-getD, place-absent, place-getD, ascending-distinct}
-use Rattle.nr.proofs.Zip.{Bits, bits-entries, length-zipWith, getD-zipWith, getD-xors}
+use Rattle.nr.proofs.Zip.{Bits, bits-entries, length-zipWith, getD-zipWith, length-xors, getD-xors, bits-xors}
 use Rattle.nr.proofs.Parity.{length-attach, bits-attach, length-maskRnti, bits-maskRnti, maskRnti-twice}
-use Rattle.nr.proofs.Interleaver.{length-interleave, bits-interleave, deinterleave-interleave}
+use Rattle.nr.proofs.Interleaver.{length-interleave, bits-interleave, length-deinterleave, deinterleave-interleave}
 use Rattle.nr.proofs.Transform.{Each, Down, bits-transform}
+use Rattle.nr.proofs.Gather.{Fits}
 use Rattle.nr.proofs.SuccessiveDecoder.{Sign, Frozen, Unchosen, noiseless}
 use Rattle.nr.proofs.SubBlocks.{punctured-down}
-use Rattle.nr.proofs.Matching.{Fits, punctured, codeRow-clean, descrambled, length-select, bits-select}
+use Rattle.nr.proofs.Matching.{punctured, codeRow-clean, descrambled, length-select, bits-select}
 use Rattle.nr.proofs.Scrambling.{length-gold, bits-gold}
 
 -- ---- the information positions: placed, marked and read again
@@ -72,6 +73,30 @@ module _ (N : ℕ) (positions bits : List ℕ) where
       getD-entries positions (placed N positions bits) i l
       ∙ placed-at (getD positions i 0) (below (getD positions i 0) (has-getD positions i 0 l))
       ∙ ap (λ (j : ℕ). getD bits j 0) (place-getD positions i (ascending-distinct positions up) l))
+
+-- ---- what coding and decoding give, for any layout
+
+module _ (l : Layout) (E rnti start : ℕ) where
+  pub length-coded : (payload : List ℕ) → length (coded l E rnti start payload) ≡ E
+  unfolding coded
+  length-coded payload =
+      length-xors E (select (l .kind) (2 ^ l .n) E (codeWord l rnti payload)) (gold start E)
+      (length-select (l .kind) (2 ^ l .n) E (codeWord l rnti payload)) (length-gold start E)
+
+  pub bits-coded : (payload : List ℕ) → Bits (coded l E rnti start payload)
+  unfolding coded
+  bits-coded payload = bits-xors (select (l .kind) (2 ^ l .n) E (codeWord l rnti payload)) (gold start E)
+
+  pub length-received : (soft : List ℤ) → 16 ≤ length (l .positions) → length (received l E rnti start soft) ≡ length (l .positions)
+  unfolding received
+  length-received soft h =
+      let row : List ℕ = entries (l .positions) (decided l E start soft) in
+      let e : length (deinterleave row) ≡ length (l .positions) = length-deinterleave row ∙ length-entries (l .positions) (decided l E start soft) in
+      length-maskRnti rnti (deinterleave row) (omega arith) ∙ e
+
+  pub bits-received : (soft : List ℤ) → Bits (received l E rnti start soft)
+  unfolding received
+  bits-received soft = bits-maskRnti rnti (deinterleave (entries (l .positions) (decided l E start soft)))
 
 -- ---- the round trip
 

@@ -1,4 +1,4 @@
--- The transform, once for every n: bits to bits, linear, its own inverse, 0 where it must stay 0, and the product with the matrix.
+-- The transform, once for every n: bits to bits, linear, its own inverse, and 0 where it must stay 0.
 -- Assumes nothing.
 use Prim.Native.Nat.{ℕ, zero, suc, _+_, _-_, _*_, _%_, _^_, _≤_, _<_}
 use native.Mathlib.Nat.{pow-suc, lt-of-not-le, div-eq-of-lt, add-mul-div-right}

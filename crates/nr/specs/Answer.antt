@@ -8,7 +8,11 @@ use Rattle.nr.specs.declared.Answer.{Answer}
 use Rattle.nr.specs.declared.Answer.the-variants.{Done, PayloadSize, CodedLength, TooManyBits, InputLength, OutputLength, BadEntry, ParityMismatch}
 use lib.ListN.{length}
 use Rattle.nr.specs.Rows.{has, first}
-use Rattle.nr.specs.Numbers.{K, lengths}
+use Rattle.nr.specs.Numbers.{K}
+
+-- the coded lengths
+abbrev pub lengths : List ℕ
+lengths = 108 ∷ 216 ∷ 432 ∷ 864 ∷ 1728 ∷ []
 
 -- the number of each answer
 unfoldable pub number : Answer → ℕ
@@ -62,6 +66,6 @@ unfoldable pub outcome : ℕ → ℕ → List ℕ → List ℕ → Outcome
 outcome zero at new old = record { number = 0; place = 0; buffer = new }
 outcome (suc i) at new old = record { number = suc i; place = cond (eqb (suc i) 6) at 0; buffer = old }
 
--- an answer of the code with the buffer that it leaves, as such
+-- an answer of the code with the buffer that it leaves, as an outcome
 unfoldable pub given : Answer → List ℕ → Outcome
 given r buffer = record { number = number r; place = placeOf r; buffer = buffer }

@@ -15,7 +15,7 @@ use Rattle.nr.specs.Transform.{transform}
 use Rattle.nr.specs.RateMatching.{select}
 use Rattle.nr.specs.Scrambling.{gold, cInit}
 
--- u: the k-th information position has bit k, and every other position 0
+-- u, of as many bits as there are information positions: the k-th of these has bit k, and every other position 0
 unfoldable pub placed : ℕ → List ℕ → List ℕ → List ℕ
 placed N positions bits = entries (map (λ p. place p positions) (count 0 N)) bits
 

@@ -35,7 +35,7 @@ orParity (suc i) A b = suc i
 unfoldable pub badSoft : ℤ → Bool
 badSoft x = ltb 127 (natAbs x)
 
--- the call for a given layout
+-- the call for a given layout; the first A bits of b are the payload
 unfoldable pub decodingFor : Layout → Numbers → List ℤ → List ℕ → Outcome
 decodingFor l s soft out =
     let b : List ℕ = received l (s .e) (s .rnti) (cInit s) soft in

@@ -1,7 +1,9 @@
 -- Demand 3: coding gives 0, and from every noiseless row decoding under the same numbers gives 0 and exactly that payload.
+-- With what document 01, "The job and its borders", says of accepted numbers, payloads and noiseless rows.
 -- The statement; its proof is `demand3` of proofs/Demand3.antt.
 -- Assumes nothing.
 use mathlib.Core.Path.{_≡_}
+use mathlib.Core.Logic.{_≢_}
 use Prim.Native.Nat.{ℕ, _≤_, _<_}
 use mathlib.Core.List.{List}
 use lib.IntN.{ℤ, pos, natAbs}
@@ -12,19 +14,21 @@ use Rattle.nr.specs.Answer.{refusal}
 use Rattle.nr.specs.Coding.{coding}
 use Rattle.nr.specs.Decoding.{decoding}
 
--- none of 1 to 3 applies to A and E
+-- document 01's accepted: none of 1 to 3 applies to A and E
 abbrev pub Accepted : Numbers → Type 0
 Accepted s = refusal (s .a) (s .e) ≡ 0
 
--- A bits
+-- document 01's payload: A bits
 pub record Payload (s : Numbers) (payload : List ℕ) : Type 0 where
   pub size : length payload ≡ s .a
   pub bits : (k : ℕ) → k < s .a → getD payload k 0 ≤ 1
 
--- E soft values in -127..127, positive where the sent byte is 0 and negative where it is 1, so that none is 0
+-- document 01's noiseless row, of values whose hard decisions are the sent bits: E soft values in -127..127 and not 0,
+-- positive where the sent byte is 0 and negative where it is 1
 pub record Noiseless (s : Numbers) (sent : List ℕ) (soft : List ℤ) : Type 0 where
   pub size : length soft ≡ s .e
   pub range : (k : ℕ) → k < s .e → natAbs (getD soft k (pos 0)) ≤ 127
+  pub nonzero : (k : ℕ) → k < s .e → getD soft k (pos 0) ≢ pos 0
   pub positive : (k : ℕ) → k < s .e → getD sent k 0 ≡ 0 → pos 0 <ℤ getD soft k (pos 0)
   pub negative : (k : ℕ) → k < s .e → getD sent k 0 ≡ 1 → getD soft k (pos 0) <ℤ pos 0
 

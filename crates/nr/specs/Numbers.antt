@@ -1,12 +1,8 @@
--- Document 01, "The job and its borders": the numbers that set a call.
+-- Document 01, "The job and its borders". The four numbers are the declared type `Numbers`; a bit is one byte, 0 or 1, and
+-- a soft value a signed 32-bit whole number, as ℕ and ℤ. What is accepted, a payload and a noiseless row: Demand3.
 -- Assumes nothing.
 use Prim.Native.Nat.{ℕ, _+_}
-use mathlib.Core.List.{List, [], _∷_}
 
 -- the payload with its 24 parity bits
 abbrev pub K : ℕ → ℕ
 K A = A + 24
-
--- the coded lengths
-abbrev pub lengths : List ℕ
-lengths = 108 ∷ 216 ∷ 432 ∷ 864 ∷ 1728 ∷ []

@@ -28,7 +28,7 @@ first f (x ∷ xs) =
     let later = suc (first f xs) in
     cond (f x) 0 later
 
--- the first place where x stands
+-- the first place where x stands; the row's length if it does not
 abbrev pub place : ℕ → List ℕ → ℕ
 place x = first (eqb x)
 

@@ -26,7 +26,7 @@ plus [] b = b
 plus (x ∷ a) [] = x ∷ a
 plus (x ∷ a) (y ∷ b) = (x +ℤ y) ∷ plus a b
 
--- a row cut into pieces of N, which are added: place i has the sum of the values k with k mod N = i
+-- a row of at most that many pieces of N, which are added: place i has the sum of the values k with k mod N = i
 unfoldable pub addUp : ℕ → ℕ → List ℤ → List ℤ
 addUp N zero row = []
 addUp N (suc pieces) row = plus (take N row) (addUp N pieces (drop N row))
@@ -77,7 +77,8 @@ decide zero x = 0
 decide (suc mark) (pos x) = 0
 decide (suc mark) (negsuc x) = 1
 
--- a row of 2 ^ n values with halves a and b: first the row f(a, b), then the row g with the first half's bits coded again
+-- a row of 2 ^ n values with halves a and b: first the row f(a, b), then the row g with the first half's bits coded again;
+-- each half's bits stand in its half of the result
 unfoldable pub successive : ℕ → List ℕ → List ℤ → List ℕ
 successive zero marks row = decide (getD marks 0 0) (getD row 0 (pos 0)) ∷ []
 successive (suc n) marks row =

@@ -25,9 +25,9 @@ pub enum Answer {
     CodedLength,
     // 3: K > E.
     TooManyBits,
-    // 4: the input's length.
+    // 4: the input's length is not A (coding) or E (decoding).
     InputLength,
-    // 5: the output's length.
+    // 5: the output's length is not E (coding) or A (decoding).
     OutputLength,
     // 6: a payload byte above 1 or a soft value outside -127..127, with the place of the first.
     BadEntry(usize),
