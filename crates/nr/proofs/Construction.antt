@@ -12,7 +12,7 @@ use Rattle.nr.specs.declared.RateMatching.{RateMatching}
 use Rattle.nr.specs.declared.RateMatching.the-variants.{Repetition, Puncturing, Shortening}
 use Rattle.nr.specs.Rows.{count, has}
 use Rattle.nr.specs.Numbers.{K}
-use Rattle.nr.specs.Answer.{lengths, refusal, refusalOf}
+use Rattle.nr.specs.Answer.{lengths, outside, refusal}
 use Rattle.nr.specs.Reliability.{reliability}
 use Rattle.nr.specs.Construction.{log2up, n1, n2, n, N, lowRate, rateMatching, P, J, unsent, front, barred, free, chosen, layout}
 use Rattle.nr.proofs.Tests.{all, distinct, ascending, left, right, holds, all-has, all-count}
@@ -22,32 +22,20 @@ use Rattle.nr.proofs.Rows.{kept, distinct-keep, dropped, distinct-drop,
 
 -- the tests of 1 to 3 do not apply
 pub record Clear (A E : ℕ) : Type 0 where
-  pub size : (ltb A 12 || ltb 140 A) ≡ false
+  pub size : outside A ≡ false
   pub length : has E lengths ≡ true
   pub room : ltb E (K A) ≡ false
 
 pub clear : (A E : ℕ) → refusal A E ≡ 0 → Clear A E
 unfolding refusal
-clear A E e = go (ltb A 12 || ltb 140 A) refl (has E lengths) refl (ltb E (K A)) refl e
+clear A E e = go (outside A) refl (has E lengths) refl (ltb E (K A)) refl e
   where
-    go : (a : Bool) → (ltb A 12 || ltb 140 A) ≡ a → (b : Bool) → has E lengths ≡ b → (c : Bool) → ltb E (K A) ≡ c
+    go : (a : Bool) → outside A ≡ a → (b : Bool) → has E lengths ≡ b → (c : Bool) → ltb E (K A) ≡ c
         → _≡_ {A = ℕ} (cond a 1 (cond (not b) 2 (cond c 3 0))) 0 → Clear A E
     go true p b q c r e = let z : ⊥ = omega arith in absurd z
     go false p false q c r e = let z : ⊥ = omega arith in absurd z
     go false p true q true r e = let z : ⊥ = omega arith in absurd z
     go false p true q false r e = record { size = p; length = q; room = r }
-
--- what none of 1 to 6 refuses, none of 1 to 3 does
-pub refusal-none : {X : Type 0} (A E : ℕ) (bad : X → Bool) (input : List X) (asked : ℕ) (out : List ℕ) (wanted : ℕ)
-    → refusalOf A E bad input asked out wanted ≡ 0 → refusal A E ≡ 0
-unfolding refusal refusalOf
-refusal-none A E bad input asked out wanted = go (ltb A 12 || ltb 140 A) (not (has E lengths)) (ltb E (K A)) _
-  where
-    go : (a b c : Bool) (more : ℕ) → _≡_ {A = ℕ} (cond a 1 (cond b 2 (cond c 3 more))) 0 → _≡_ {A = ℕ} (cond a 1 (cond b 2 (cond c 3 0))) 0
-    go true b c more e = e
-    go false true c more e = e
-    go false false true more e = e
-    go false false false more e = refl
 
 -- the same in the terms of K
 pub record Sized (K E : ℕ) : Type 0 where
@@ -59,13 +47,12 @@ pub record Sized (K E : ℕ) : Type 0 where
 pub accepted : (A E : ℕ) → refusal A E ≡ 0 → Sized (K A) E
 accepted A E e =
     let c = clear A E e in
-    let b = bounds (ltb A 12) refl (ltb 140 A) refl (c .size) in
-    record { low = omega (arith, b .0); high = omega (arith, b .1); length = holds (c .length); fits = ltb-false E (K A) (c .room) }
+    let b = neither (ltb A 12) (ltb 140 A) (c .size) in
+    record { low = omega (arith, ltb-false A 12 (b .0)); high = omega (arith, ltb-false 140 A (b .1)); length = holds (c .length); fits = ltb-false E (K A) (c .room) }
   where
-    bounds : (a : Bool) → ltb A 12 ≡ a → (b : Bool) → ltb 140 A ≡ b → (a || b) ≡ false → (12 ≤ A) × (A ≤ 140)
-    bounds true p b q e = absurd (subst T e tt)
-    bounds false p true q e = absurd (subst T e tt)
-    bounds false p false q e = (ltb-false A 12 p, ltb-false 140 A q)
+    neither : (a b : Bool) → (a || b) ≡ false → (a ≡ false) × (b ≡ false)
+    neither true b e = absurd (subst T e tt)
+    neither false b e = (refl, e)
 
 -- a test that every accepted pair passes
 abbrev everyPair : (ℕ → ℕ → Bool) → Bool

@@ -1,25 +1,32 @@
--- Demand 1 over the definitions. On every number but 0 the output buffer holds what it held, and only 6 carries a place; on 0 it
--- holds the whole result: E bits of coding, A bits of decoding.
+-- Demand 1 over the definitions. On every number but 0 the output buffer holds what it held, and only 6 carries a place, that of
+-- the first bad entry; on 0 the buffer holds the whole result: E bits of coding, A bits of decoding. And when 0 and 7 are given.
 -- Assumes nothing.
-use Prim.Native.Nat.{ℕ, zero, suc}
+use Prim.Native.Nat.{ℕ, zero, suc, _≤_, _<_}
 use native.Mathlib.Nat.{suc-ne-zero}
 use native.Mathlib.Omega.{arith}
-use mathlib.Core.Path.{_≡_, refl}
-use mathlib.Core.Logic.{_≢_}
+use mathlib.Core.Path.{_≡_, refl, sym, subst, ap, _∙_}
+use mathlib.Core.Logic.{_≢_, _↔_}
+use mathlib.Core.Bool.{Bool, true, false, cond, not}
 use mathlib.Core.List.{List}
-use lib.IntN.{ℤ}
-use lib.ListN.{length, take}
+use lib.Dec.{T}
+use lib.IntN.{ℤ, pos, natAbs}
+use lib.ListN.{length, getD, take}
 use lib.Seq.{length-take-le}
-use borrow.Author.Tests.{ne-eqb}
+use borrow.Author.Tests.{le-ltb, ltb-false, eq-eqb, ne-eqb}
+use Rattle.nr.specs.Rows.{first}
 use Rattle.nr.specs.declared.Numbers.{Numbers}
 use Rattle.nr.specs.Numbers.{K}
 use Rattle.nr.specs.Answer.{refusalOf, Outcome, outcome}
 use Rattle.nr.specs.Construction.{Layout, layout}
 use Rattle.nr.specs.Scrambling.{cInit}
-use Rattle.nr.specs.Coding.{codingFor, coding}
+use Rattle.nr.specs.Parity.{parityMatches}
+use Rattle.nr.specs.Coding.{badByte, codingFor, coding}
+use Rattle.nr.specs.Demand3.{Accepted, Payload}
 use Rattle.nr.specs.Decoding.{received, orParity, badSoft, decodingFor, decoding}
 use Rattle.nr.proofs.Zip.{Bits, bits-take}
-use Rattle.nr.proofs.Construction.{refusal-none, Sized, accepted, positions}
+use Rattle.nr.proofs.Construction.{Sized, accepted, positions}
+use Rattle.nr.proofs.Refusals.{Passes, passes-exactly, at-most-six, first-none, before-first, FirstBad, six-first}
+use Rattle.nr.proofs.Tests.{is, isn't}
 use Rattle.nr.proofs.RoundTrip.{length-coded, bits-coded, length-received, bits-received}
 
 -- ---- on every number but 0
@@ -41,6 +48,151 @@ pub decoding-untouched : (s : Numbers) (soft : List ℤ) (out : List ℕ) → Un
 unfolding decoding decodingFor
 decoding-untouched s soft out = untouched _ _ _ out
 
+-- ---- the number
+
+outcome-number : (i at : ℕ) (new old : List ℕ) → outcome i at new old .number ≡ i
+unfolding outcome
+outcome-number zero at new old = refl
+outcome-number (suc i) at new old = refl
+
+outcome-place : (i at : ℕ) (new old : List ℕ) → i ≡ 6 → outcome i at new old .place ≡ at
+unfolding outcome
+outcome-place zero at new old e = let z : ⊥ = omega arith in absurd z
+outcome-place (suc i) at new old e = rw (eq-eqb (suc i) 6 e)
+
+-- where none of 1 to 6 applies, the parity decides between 0 and 7
+matches : (A : ℕ) (b : List ℕ) → T (parityMatches A b) → orParity 0 A b ≡ 0
+unfolding orParity
+matches A b t = ap (λ (m : Bool). cond m 0 7) (is (parityMatches A b) t)
+
+differs : (A : ℕ) (b : List ℕ) → T (not (parityMatches A b)) → orParity 0 A b ≡ 7
+unfolding orParity
+differs A b t = ap (λ (m : Bool). cond m 0 7) (isn't (parityMatches A b) t)
+
+-- and 0 and 7 are given only then
+matched : (i A : ℕ) (b : List ℕ) → orParity i A b ≡ 0 → (i ≡ 0) × T (parityMatches A b)
+unfolding orParity
+matched zero A b e = (refl, go (parityMatches A b) e)
+  where
+    go : (t : Bool) → _≡_ {A = ℕ} (cond t 0 7) 0 → T t
+    go true e = tt
+    go false e = let z : ⊥ = omega arith in absurd z
+matched (suc i) A b e = absurd (suc-ne-zero i e)
+
+unmatched : (i A : ℕ) (b : List ℕ) → i ≤ 6 → orParity i A b ≡ 7 → (i ≡ 0) × T (not (parityMatches A b))
+unfolding orParity
+unmatched zero A b l e = (refl, go (parityMatches A b) e)
+  where
+    go : (t : Bool) → _≡_ {A = ℕ} (cond t 0 7) 7 → T (not t)
+    go true e = let z : ⊥ = omega arith in absurd z
+    go false e = tt
+unmatched (suc i) A b l e = let z : ⊥ = omega arith in absurd z
+
+not-parity : (i A : ℕ) (b : List ℕ) → orParity i A b ≡ 6 → i ≡ 6
+unfolding orParity
+not-parity zero A b e = go (parityMatches A b) e
+  where
+    go : (t : Bool) → _≡_ {A = ℕ} (cond t 0 7) 6 → _≡_ {A = ℕ} 0 6
+    go true e = e
+    go false e = let z : ⊥ = omega arith in absurd z
+not-parity (suc i) A b e = e
+
+-- coding gives 0 exactly if the numbers are accepted, the payload is one, and the output has E bytes
+pub record CodingDone (s : Numbers) (payload out : List ℕ) : Type 0 where
+  pub numbers : Accepted s
+  pub input : Payload s payload
+  pub output : length out ≡ s .e
+
+pub coding-done : (s : Numbers) (payload out : List ℕ) → (coding s payload out .number ≡ 0) ↔ CodingDone s payload out
+unfolding coding codingFor badByte
+coding-done s payload out = (
+  λ e.
+      let p : Passes (s .a) (s .e) badByte payload (s .a) out (s .e) = exactly .0 (sym (outcome-number _ _ _ out) ∙ e) in
+      record {
+        numbers = p .pair;
+        input = record {
+          size = p .input-length;
+          bits = λ k h. ltb-false 1 (getD payload k 0) (before-first badByte payload 0 k (omega (arith, p .entries, p .input-length)));
+        };
+        output = p .output-length;
+      },
+  λ c.
+      outcome-number _ _ _ out
+      ∙ exactly .1 (record {
+        pair = c .numbers;
+        input-length = c .input .size;
+        output-length = c .output;
+        entries = first-none badByte payload 0 (λ k h. le-ltb 1 (getD payload k 0) (c .input .bits k (omega (arith, c .input .size))));
+      }),
+)
+  where
+    exactly : (refusalOf (s .a) (s .e) badByte payload (s .a) out (s .e) ≡ 0) ↔ Passes (s .a) (s .e) badByte payload (s .a) out (s .e)
+    exactly = passes-exactly (s .a) (s .e) badByte payload (s .a) out (s .e)
+
+-- decoding runs exactly if the numbers are accepted, the input is E values in -127..127, and the output has A bytes
+pub record DecodingRuns (s : Numbers) (soft : List ℤ) (out : List ℕ) : Type 0 where
+  pub numbers : Accepted s
+  pub size : length soft ≡ s .e
+  pub range : (k : ℕ) → k < s .e → natAbs (getD soft k (pos 0)) ≤ 127
+  pub output : length out ≡ s .a
+
+module _ (s : Numbers) (soft : List ℤ) (out : List ℕ) where
+  abbrev b : List ℕ
+  b = received (layout (K (s .a)) (s .e)) (s .e) (s .rnti) (cInit s) soft
+
+  abbrev i : ℕ
+  i = refusalOf (s .a) (s .e) badSoft soft (s .e) out (s .a)
+
+  runs : i ≡ 0 → DecodingRuns s soft out
+  unfolding badSoft
+  runs e =
+      let p : Passes (s .a) (s .e) badSoft soft (s .e) out (s .a) = passes-exactly (s .a) (s .e) badSoft soft (s .e) out (s .a) .0 e in
+      record {
+        numbers = p .pair;
+        size = p .input-length;
+        range = λ k h. ltb-false 127 (natAbs (getD soft k (pos 0))) (before-first badSoft soft (pos 0) k (omega (arith, p .entries, p .input-length)));
+        output = p .output-length;
+      }
+
+  ran : DecodingRuns s soft out → i ≡ 0
+  unfolding badSoft
+  ran r =
+      passes-exactly (s .a) (s .e) badSoft soft (s .e) out (s .a) .1 (record {
+        pair = r .numbers;
+        input-length = r .size;
+        output-length = r .output;
+        entries = first-none badSoft soft (pos 0) (λ k h. le-ltb 127 (natAbs (getD soft k (pos 0))) (r .range k (omega (arith, r .size))));
+      })
+
+  -- it then gives 0 exactly if the parity matches, and 7 exactly if it does not
+  pub decoding-done : (decoding s soft out .number ≡ 0) ↔ (DecodingRuns s soft out × T (parityMatches (s .a) b))
+  unfolding decoding decodingFor
+  decoding-done = (
+    λ e. let m = matched i (s .a) b (sym (outcome-number _ _ _ out) ∙ e) in (runs (m .0), m .1),
+    λ r. outcome-number _ _ _ out ∙ ap (λ (j : ℕ). orParity j (s .a) b) (ran (r .0)) ∙ matches (s .a) b (r .1),
+  )
+
+  pub decoding-mismatch : (decoding s soft out .number ≡ 7) ↔ (DecodingRuns s soft out × T (not (parityMatches (s .a) b)))
+  unfolding decoding decodingFor
+  decoding-mismatch = (
+    λ e. let m = unmatched i (s .a) b (at-most-six (s .a) (s .e) badSoft soft (s .e) out (s .a)) (sym (outcome-number _ _ _ out) ∙ e) in (runs (m .0), m .1),
+    λ r. outcome-number _ _ _ out ∙ ap (λ (j : ℕ). orParity j (s .a) b) (ran (r .0)) ∙ differs (s .a) b (r .1),
+  )
+
+-- 6 carries the place of the first bad entry
+pub coding-bad : (s : Numbers) (payload out : List ℕ) → coding s payload out .number ≡ 6 → FirstBad badByte payload 0 (coding s payload out .place)
+unfolding coding codingFor
+coding-bad s payload out e =
+    let six : refusalOf (s .a) (s .e) badByte payload (s .a) out (s .e) ≡ 6 = sym (outcome-number _ _ _ out) ∙ e in
+    subst (FirstBad badByte payload 0) (sym (outcome-place _ (first badByte payload) _ out six)) (six-first (s .a) (s .e) badByte payload (s .a) out (s .e) 0 six)
+
+pub decoding-bad : (s : Numbers) (soft : List ℤ) (out : List ℕ) → decoding s soft out .number ≡ 6 → FirstBad badSoft soft (pos 0) (decoding s soft out .place)
+unfolding decoding decodingFor
+decoding-bad s soft out e =
+    let six : orParity (i s soft out) (s .a) (b s soft out) ≡ 6 = sym (outcome-number _ _ _ out) ∙ e in
+    subst (FirstBad badSoft soft (pos 0)) (sym (outcome-place _ (first badSoft soft) _ out six))
+    (six-first (s .a) (s .e) badSoft soft (s .e) out (s .a) (pos 0) (not-parity (i s soft out) (s .a) (b s soft out) six))
+
 -- ---- on 0
 
 -- the buffer holds `size` bits
@@ -60,7 +212,7 @@ coding-whole s payload out =
     (bits-coded (layout (K (s .a)) (s .e)) (s .e) (s .rnti) (cInit s) payload)
 
 pub decoding-whole : (s : Numbers) (soft : List ℤ) (out : List ℕ) → Whole (s .a) (decoding s soft out)
-unfolding decoding decodingFor orParity
+unfolding decoding decodingFor
 decoding-whole s soft out = whole (s .a) _ _ _ out size (bits-take (s .a) b (bits-received l (s .e) (s .rnti) (cInit s) soft))
   where
     l : Layout
@@ -69,13 +221,8 @@ decoding-whole s soft out = whole (s .a) _ _ _ out size (bits-take (s .a) b (bit
     b : List ℕ
     b = received l (s .e) (s .rnti) (cInit s) soft
 
-    -- 7 aside, the number is that of 1 to 6
-    before : (i : ℕ) → orParity i (s .a) b ≡ 0 → i ≡ 0
-    before zero e = refl
-    before (suc i) e = e
-
     size : orParity (refusalOf (s .a) (s .e) badSoft soft (s .e) out (s .a)) (s .a) b ≡ 0 → length (take (s .a) b) ≡ s .a
     size e =
-        let c : Sized (K (s .a)) (s .e) = accepted (s .a) (s .e) (refusal-none (s .a) (s .e) badSoft soft (s .e) out (s .a) (before _ e)) in
+        let c : Sized (K (s .a)) (s .e) = accepted (s .a) (s .e) (passes-exactly (s .a) (s .e) badSoft soft (s .e) out (s .a) .0 (matched _ (s .a) b e .0) .pair) in
         let p : length (l .positions) ≡ K (s .a) = positions (K (s .a)) (s .e) c .size in
         length-take-le (s .a) b (omega (arith, length-received l (s .e) (s .rnti) (cInit s) soft (omega arith)))

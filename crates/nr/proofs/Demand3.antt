@@ -12,12 +12,12 @@ use lib.Dec.{leb, ltb→lt}
 use lib.IntN.{ℤ, pos, negsuc, natAbs}
 use lib.Signed.{_<ℤ_, ltZ-yes, <ℤ-irrefl}
 use lib.ListN.{length, getD, take, length-map, replicate, length-replicate, List·getD-eq-default}
-use borrow.Author.Tests.{le-ltb, eq-eqb, leb-true, leb-false}
+use borrow.Author.Tests.{le-ltb, leb-true, leb-false}
 use Rattle.nr.specs.declared.Numbers.{Numbers}
 use Rattle.nr.specs.declared.RateMatching.the-variants.{Repetition, Puncturing, Shortening}
 use Rattle.nr.specs.Rows.{count, first}
 use Rattle.nr.specs.Numbers.{K}
-use Rattle.nr.specs.Answer.{refusal, refusalOf, Outcome, outcome}
+use Rattle.nr.specs.Answer.{refusalOf, Outcome, outcome}
 use Rattle.nr.specs.Parity.{attach, parityMatches}
 use Rattle.nr.specs.Construction.{n, N, lowRate, rateMatching, front, unsent, barred, Layout, layout}
 use Rattle.nr.specs.Scrambling.{cInit}
@@ -25,12 +25,13 @@ use Rattle.nr.specs.Coding.{coded, badByte, codingFor, coding}
 use Rattle.nr.specs.Decoding.{received, orParity, badSoft, decodingFor, decoding}
 use Rattle.nr.specs.Demand3.{Accepted, Payload, Noiseless, Demand3, HypothesesMet}
 use Rattle.nr.proofs.Tests.{is}
-use Rattle.nr.proofs.Rows.{first-none, getD-map, not-has-left}
+use Rattle.nr.proofs.Rows.{getD-map, not-has-left}
 use Rattle.nr.proofs.Zip.{Bits, bits-replicate}
 use Rattle.nr.proofs.Parity.{accepts, attach-front}
 use Rattle.nr.proofs.SuccessiveDecoder.{Sign}
-use Rattle.nr.proofs.Construction.{clear, Sized, accepted, positions}
+use Rattle.nr.proofs.Construction.{Sized, accepted, positions}
 use Rattle.nr.proofs.Gather.{Fits}
+use Rattle.nr.proofs.Refusals.{first-none, passes-exactly}
 use Rattle.nr.proofs.RoundTrip.{length-coded, bits-coded, Sound, round-trip}
 
 -- ---- document 01's layout is sound
@@ -61,16 +62,6 @@ sound K E c =
       sent = λ q h. not-has-left q (unsent (rateMatching K E) (N K E) E) (count 0 (front (rateMatching K E) (N K E) E)) (p .unbarred q h);
     }
 
--- ---- none of 1 to 6 applies
-
-unrefused : {X : Type 0} (A E : ℕ) (bad : X → Bool) (input : List X) (out : List ℕ) (asked wanted : ℕ)
-    → refusal A E ≡ 0 → length input ≡ asked → length out ≡ wanted → first bad input ≡ length input
-    → refusalOf A E bad input asked out wanted ≡ 0
-unfolding refusalOf
-unrefused A E bad input out asked wanted r e e′ e″ =
-    let c = clear A E r in
-    rw (c .size, c .length, c .room, eq-eqb (length input) asked e, eq-eqb (length out) wanted e′, le-ltb (first bad input) (length input) (omega arith))
-
 -- ---- coding
 
 module _ (s : Numbers) (payload : List ℕ) (a : Accepted s) (p : Payload s payload) where
@@ -90,8 +81,12 @@ module _ (s : Numbers) (payload : List ℕ) (a : Accepted s) (p : Payload s payl
   unfolding coding codingFor outcome badByte
   coding-is out e =
       ap (λ (i : ℕ). outcome i (first badByte payload) sent out)
-      (unrefused (s .a) (s .e) badByte payload out (s .a) (s .e) a (p .size) e
-      (first-none badByte payload 0 (λ k h. le-ltb 1 (getD payload k 0) (bits k))))
+      (passes-exactly (s .a) (s .e) badByte payload (s .a) out (s .e) .1 (record {
+        pair = a;
+        input-length = p .size;
+        output-length = e;
+        entries = first-none badByte payload 0 (λ k h. le-ltb 1 (getD payload k 0) (bits k));
+      }))
 
   -- ---- decoding
 
@@ -126,8 +121,12 @@ module _ (s : Numbers) (payload : List ℕ) (a : Accepted s) (p : Payload s payl
       where
         unbad : refusalOf (s .a) (s .e) badSoft soft (s .e) out′ (s .a) ≡ 0
         unbad =
-            unrefused (s .a) (s .e) badSoft soft out′ (s .e) (s .a) a (clean .size) e
-            (first-none badSoft soft (pos 0) (λ k h. le-ltb 127 (natAbs (getD soft k (pos 0))) (clean .range k (subst (λ (m : ℕ). k < m) (clean .size) h))))
+            passes-exactly (s .a) (s .e) badSoft soft (s .e) out′ (s .a) .1 (record {
+              pair = a;
+              input-length = clean .size;
+              output-length = e;
+              entries = first-none badSoft soft (pos 0) (λ k h. le-ltb 127 (natAbs (getD soft k (pos 0))) (clean .range k (subst (λ (m : ℕ). k < m) (clean .size) h)));
+            })
 
 pub demand3 : Demand3
 demand3 = record {

@@ -25,7 +25,7 @@ Fits Repetition N E = N ≤ E
 Fits Puncturing N E = E < N
 Fits Shortening N E = E < N
 
--- the sum of the values whose place k, counted from `k`, has `from k` equal to i
+-- of a row whose places are k, k + 1, ..: the sum of the values with `from` of the place equal to i
 unfoldable pub added : (ℕ → ℕ) → ℕ → ℕ → List ℤ → ℤ
 added from i k [] = pos 0
 added from i k (x ∷ row) = cond (eqb (from k) i) x (pos 0) +ℤ added from i (suc k) row

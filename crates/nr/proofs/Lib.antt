@@ -12,6 +12,7 @@ pub mod Gather
 pub mod Matching
 pub mod Scrambling
 pub mod RoundTrip
+pub mod Refusals
 pub mod Demand1
 pub mod Demand3
 pub mod Kronecker

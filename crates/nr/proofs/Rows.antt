@@ -11,7 +11,7 @@ use lib.Dec.{T, ltb, eqb, eqb→eq, lt→ltb, ltb→lt, T-not}
 use lib.ListN.{length, getD, drop, length-map}
 use lib.Seq.{getD-append-add}
 use borrow.Author.Tests.{eqb-false, ne-eqb, eq-eqb}
-use Rattle.nr.specs.Rows.{count, has, keep, first, place, entries, same}
+use Rattle.nr.specs.Rows.{count, has, keep, place, entries, same}
 use Rattle.nr.proofs.Tests.{all, distinct, ascending, left, right, pair, is, isn't, off, holds, here, there, cases, all-has, all-from}
 
 -- ---- ranges, and rows that are a function of the place
@@ -247,11 +247,6 @@ ascending-distinct (x ∷ xs) t =
         let l : x < x = ltb→lt x x (all-has (λ y. ltb x y) xs (left (all (λ y. ltb x y) xs) (ascending xs) t) x (holds e)) in
         let w : ⊥ = omega arith in absurd w
     no false e = tt
-
--- no entry passes: the first place that does is the length
-pub first-none : {X : Type 0} (f : X → Bool) (xs : List X) (d : X) → ((k : ℕ) → k < length xs → f (getD xs k d) ≡ false) → first f xs ≡ length xs
-first-none f [] d h = refl
-first-none f (x ∷ xs) d h = rw (h 0 (omega arith)) (ap suc (first-none f xs d (λ k l. h (suc k) (omega arith))))
 
 -- ---- two rows that hold the same
 

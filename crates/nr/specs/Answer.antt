@@ -41,9 +41,13 @@ abbrev pub firstOf : ℕ → List Bool → ℕ
 firstOf i [] = 0
 firstOf i (test ∷ tests) = cond test i (firstOf (suc i) tests)
 
+-- A is outside 12..140
+abbrev pub outside : ℕ → Bool
+outside A = ltb A 12 || ltb 140 A
+
 -- the tests of 1 to 3, with those of 4 to 6 behind them
 abbrev pub tests : ℕ → ℕ → List Bool → List Bool
-tests A E more = (ltb A 12 || ltb 140 A) ∷ not (has E lengths) ∷ ltb E (K A) ∷ more
+tests A E more = outside A ∷ not (has E lengths) ∷ ltb E (K A) ∷ more
 
 -- the numbers 1 to 3: 0 where A and E are accepted
 unfoldable pub refusal : ℕ → ℕ → ℕ
