@@ -12,12 +12,12 @@ use Rattle.nr.proofs.Zip.{Bits}
 
 -- ---- E bits
 
-length-terms : (k s1 s2 : ℕ) → length (terms k s1 s2) ≡ k
+pub length-terms : (k s1 s2 : ℕ) → length (terms k s1 s2) ≡ k
 unfolding terms
 length-terms zero s1 s2 = refl
 length-terms (suc k) s1 s2 = ap suc (length-terms k (step1 s1) (step2 s2))
 
-bits-terms : (k s1 s2 : ℕ) → Bits (terms k s1 s2)
+pub bits-terms : (k s1 s2 : ℕ) → Bits (terms k s1 s2)
 unfolding terms
 bits-terms zero s1 s2 i = omega arith
 bits-terms (suc k) s1 s2 zero = omega arith
@@ -138,12 +138,12 @@ x2-recurs s i h =
 
 -- ---- c(k) = x1(k + 1600) + x2(k + 1600)
 
-after-after : (step : ℕ → ℕ) (m k s : ℕ) → after step k (after step m s) ≡ after step (m + k) s
+pub after-after : (step : ℕ → ℕ) (m k s : ℕ) → after step k (after step m s) ≡ after step (m + k) s
 unfolding after
 after-after step zero k s = let e : k ≡ 0 + k = omega arith in ap (λ (i : ℕ). after step i s) e
 after-after step (suc m) k s = after-after step m k (step s) ∙ ap (λ (i : ℕ). after step i s) (sym (suc-add m k))
 
-terms-at : (E s1 s2 k : ℕ) → k < E → getD (terms E s1 s2) k 0 ≡ (x1 s1 k + x2 s2 k) % 2
+pub terms-at : (E s1 s2 k : ℕ) → k < E → getD (terms E s1 s2) k 0 ≡ (x1 s1 k + x2 s2 k) % 2
 unfolding terms after
 terms-at zero s1 s2 k h = absurd (not-suc-le-zero h)
 terms-at (suc E) s1 s2 zero h = refl

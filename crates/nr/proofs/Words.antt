@@ -1,0 +1,75 @@
+-- The bits of numbers under the operations of words: shifts, masks and exclusive or.
+-- Assumes nothing.
+use Prim.Native.Nat.{ℕ, zero, suc, _+_, _-_, _*_, _/_, _%_, _^_, _≤_, _<_}
+use native.Mathlib.Nat.{not-suc-le-zero, le-of-suc-le-suc, pow-suc}
+use native.Mathlib.Omega.{arith}
+use mathlib.Core.Path.{_≡_, refl, sym, ap, ap₂, _∙_}
+use mathlib.Core.List.{List, [], _∷_, zipWith}
+use lib.Bits.{differ, bitAnd, bitXor, xor-step, xor-shr, and-mask}
+use lib.Pow.{shr-shr, field, mod-pow-add}
+use Rattle.nr.specs.Rows.{bit, msbFirst, xor, xors}
+use Rattle.nr.proofs.Zip.{cons}
+
+-- ---- exclusive or is addition mod 2 of the bits
+
+differ-is : (a b : ℕ) → a ≤ 1 → b ≤ 1 → differ a b ≡ xor a b
+differ-is zero b h h′ = omega arith
+differ-is (suc zero) zero h h′ = refl
+differ-is (suc zero) (suc zero) h h′ = refl
+differ-is (suc zero) (suc (suc b)) h h′ = absurd (not-suc-le-zero (le-of-suc-le-suc h′))
+differ-is (suc (suc a)) b h h′ = absurd (not-suc-le-zero (le-of-suc-le-suc h))
+
+xor-low : (a b : ℕ) → bitXor a b % 2 ≡ xor (a % 2) (b % 2)
+xor-low a b =
+    ap (λ (x : ℕ). x % 2) (xor-step a b ∙ ap (λ (x : ℕ). bitXor (a / 2) (b / 2) * 2 + x) (differ-is (a % 2) (b % 2) (omega arith) (omega arith)))
+    ∙ omega arith
+
+-- of two bits
+pub xor-bits : (a b : ℕ) → a ≤ 1 → b ≤ 1 → bitXor a b ≡ xor a b
+xor-bits zero b h h′ = omega arith
+xor-bits (suc zero) zero h h′ = refl
+xor-bits (suc zero) (suc zero) h h′ = refl
+xor-bits (suc zero) (suc (suc b)) h h′ = absurd (not-suc-le-zero (le-of-suc-le-suc h′))
+xor-bits (suc (suc a)) b h h′ = absurd (not-suc-le-zero (le-of-suc-le-suc h))
+
+pub bit-xor : (i a b : ℕ) → bit i (bitXor a b) ≡ xor (bit i a) (bit i b)
+bit-xor i a b = ap (λ (x : ℕ). x % 2) (xor-shr a b i) ∙ xor-low (a / 2 ^ i) (b / 2 ^ i)
+
+pub msbFirst-xor : (k a b : ℕ) → msbFirst k (bitXor a b) ≡ xors (msbFirst k a) (msbFirst k b)
+unfolding xors zipWith
+msbFirst-xor zero a b = refl
+msbFirst-xor (suc k) a b = cons (bit-xor k a b) (msbFirst-xor k a b)
+
+-- ---- masks and shifts
+
+pub bit-le : (i x : ℕ) → bit i x ≤ 1
+bit-le i x = omega arith
+
+-- the mask that keeps the lowest bit
+pub and-one : (x : ℕ) → bitAnd x 1 ≡ x % 2
+and-one x = and-mask x 1
+
+-- the lowest k bits are those of the number mod 2 ^ k
+pub bit-mod : (i k x : ℕ) → i < k → bit i (x % 2 ^ k) ≡ bit i x
+bit-mod i k x h =
+    let e : k ≡ suc (k - suc i) + i = omega arith in
+    ap (λ (m : ℕ). x % 2 ^ m / 2 ^ i % 2) e ∙ ap (λ (y : ℕ). y % 2) (field x (suc (k - suc i)) i) ∙ fine (k - suc i) (x / 2 ^ i)
+  where
+    fine : (j y : ℕ) → y % 2 ^ suc j % 2 ≡ y % 2
+    fine j y =
+        let e : suc j ≡ j + 1 = omega arith in
+        ap (λ (m : ℕ). y % 2 ^ m % 2) e ∙ ap (λ (z : ℕ). z % 2) (mod-pow-add y j 1) ∙ omega arith
+
+-- the bits of a number shifted down
+pub bit-shr : (i k x : ℕ) → bit i (x / 2 ^ k) ≡ bit (k + i) x
+bit-shr i k x = ap (λ (y : ℕ). y % 2) (shr-shr x k i)
+
+-- ---- a number below 2 ^ k is known by its lowest k bits
+
+pub same-bits : (k a b : ℕ) → a < 2 ^ k → b < 2 ^ k → ((i : ℕ) → i < k → bit i a ≡ bit i b) → a ≡ b
+same-bits zero a b h h′ e = omega arith
+same-bits (suc k) a b h h′ e =
+    let half : a / 2 ≡ b / 2 = same-bits k (a / 2) (b / 2) (omega (arith, pow-suc 2 k)) (omega (arith, pow-suc 2 k))
+    (λ i l. bit-shr i 1 a ∙ e (1 + i) (omega arith) ∙ sym (bit-shr i 1 b)) in
+    let low : a / 1 % 2 ≡ b / 1 % 2 = e 0 (omega arith) in
+    omega arith
