@@ -16,23 +16,23 @@ use Rattle.nr.proofs.Rows.{same-refl, same-eq}
 use Rattle.nr.proofs.Zip.{Bits, bits-append, bits-take, bits-drop, bits-replicate, bits-xors, bits-msbFirst, length-msbFirst, length-xors, xors-back, xor-swap, xors-comm, xors-zeros, cons, zipWith-append}
 
 -- the generator below D^24
-abbrev low : List ℕ
+abbrev pub low : List ℕ
 low = msbFirst 24 0xB2B117
 
 -- ---- a multiple of some coefficients, added to a row
 
-length-addTimes : (c : ℕ) (gs row : List ℕ) → length (addTimes c gs row) ≡ length row
+pub length-addTimes : (c : ℕ) (gs row : List ℕ) → length (addTimes c gs row) ≡ length row
 length-addTimes c [] row = refl
 length-addTimes c (g ∷ gs) [] = refl
 length-addTimes c (g ∷ gs) (x ∷ row) = ap suc (length-addTimes c gs row)
 
-bits-addTimes : (c : ℕ) (gs row : List ℕ) → Bits row → Bits (addTimes c gs row)
+pub bits-addTimes : (c : ℕ) (gs row : List ℕ) → Bits row → Bits (addTimes c gs row)
 bits-addTimes c [] row p k = p k
 bits-addTimes c (g ∷ gs) [] p k = p k
 bits-addTimes c (g ∷ gs) (x ∷ row) p zero = omega arith
 bits-addTimes c (g ∷ gs) (x ∷ row) p (suc k) = bits-addTimes c gs row (λ i. p (suc i)) k
 
-addTimes-none : (gs row : List ℕ) → Bits row → addTimes 0 gs row ≡ row
+pub addTimes-none : (gs row : List ℕ) → Bits row → addTimes 0 gs row ≡ row
 addTimes-none [] row p = refl
 addTimes-none (g ∷ gs) [] p = refl
 addTimes-none (g ∷ gs) (x ∷ row) p = cons (omega (arith, p 0)) (addTimes-none gs row (λ k. p (suc k)))
@@ -42,7 +42,7 @@ addTimes-twice c [] row p = refl
 addTimes-twice c (g ∷ gs) [] p = refl
 addTimes-twice c (g ∷ gs) (x ∷ row) p = cons (omega (arith, p 0)) (addTimes-twice c gs row (λ k. p (suc k)))
 
-addTimes-xors : (c : ℕ) (gs a b : List ℕ) → length a ≡ length b → addTimes c gs (xors a b) ≡ xors (addTimes c gs a) b
+pub addTimes-xors : (c : ℕ) (gs a b : List ℕ) → length a ≡ length b → addTimes c gs (xors a b) ≡ xors (addTimes c gs a) b
 unfolding xors zipWith
 addTimes-xors c [] a b e = refl
 addTimes-xors c (g ∷ gs) [] b e = refl
@@ -199,7 +199,7 @@ module _ (payload : List ℕ) where
   length-ones = simp (length-append, length-replicate) (omega arith)
 
   -- the parity, with the row that is divided bracketed as its front and 24 zeros
-  parity-is : divide (24 + length payload) (onesBefore payload ++ replicate 24 0) ≡ parity payload
+  pub parity-is : divide (24 + length payload) (onesBefore payload ++ replicate 24 0) ≡ parity payload
   unfolding parity
   parity-is =
       remainder-is (24 + length payload) (onesBefore payload) length-ones

@@ -1,12 +1,13 @@
 -- The bits of numbers under the operations of words: shifts, masks and exclusive or.
 -- Assumes nothing.
 use Prim.Native.Nat.{ℕ, zero, suc, _+_, _-_, _*_, _/_, _%_, _^_, _≤_, _<_}
-use native.Mathlib.Nat.{not-suc-le-zero, le-of-suc-le-suc, pow-suc}
+use native.Mathlib.Nat.{not-suc-le-zero, le-of-suc-le-suc, lt-of-lt-of-le, div-eq-of-lt, pow-suc}
 use native.Mathlib.Omega.{arith}
 use mathlib.Core.Path.{_≡_, refl, sym, ap, ap₂, _∙_}
-use mathlib.Core.List.{List, [], _∷_, zipWith}
+use mathlib.Core.List.{List, [], _∷_, _++_, zipWith}
 use lib.Bits.{differ, bitAnd, bitXor, xor-step, xor-shr, and-mask}
-use lib.Pow.{shr-shr, field, mod-pow-add}
+use lib.ListN.{getD, replicate}
+use lib.Pow.{pow-mono, shr-shr, field, mod-pow-add}
 use Rattle.nr.specs.Rows.{bit, msbFirst, xor, xors}
 use Rattle.nr.proofs.Zip.{cons}
 
@@ -19,7 +20,7 @@ differ-is (suc zero) (suc zero) h h′ = refl
 differ-is (suc zero) (suc (suc b)) h h′ = absurd (not-suc-le-zero (le-of-suc-le-suc h′))
 differ-is (suc (suc a)) b h h′ = absurd (not-suc-le-zero (le-of-suc-le-suc h))
 
-xor-low : (a b : ℕ) → bitXor a b % 2 ≡ xor (a % 2) (b % 2)
+pub xor-low : (a b : ℕ) → bitXor a b % 2 ≡ xor (a % 2) (b % 2)
 xor-low a b =
     ap (λ (x : ℕ). x % 2) (xor-step a b ∙ ap (λ (x : ℕ). bitXor (a / 2) (b / 2) * 2 + x) (differ-is (a % 2) (b % 2) (omega arith) (omega arith)))
     ∙ omega arith
@@ -49,6 +50,13 @@ bit-le i x = omega arith
 pub and-one : (x : ℕ) → bitAnd x 1 ≡ x % 2
 and-one x = and-mask x 1
 
+pub getD-msbFirst : (k x i : ℕ) → i < k → getD (msbFirst k x) i 0 ≡ bit (k - 1 - i) x
+getD-msbFirst zero x i h = absurd (not-suc-le-zero h)
+getD-msbFirst (suc k) x zero h = let e : k ≡ suc k - 1 - 0 = omega arith in ap (λ (j : ℕ). bit j x) e
+getD-msbFirst (suc k) x (suc i) h =
+    let e : k - 1 - i ≡ suc k - 1 - suc i = omega arith in
+    getD-msbFirst k x i (le-of-suc-le-suc h) ∙ ap (λ (j : ℕ). bit j x) e
+
 -- the lowest k bits are those of the number mod 2 ^ k
 pub bit-mod : (i k x : ℕ) → i < k → bit i (x % 2 ^ k) ≡ bit i x
 bit-mod i k x h =
@@ -63,6 +71,25 @@ bit-mod i k x h =
 -- the bits of a number shifted down
 pub bit-shr : (i k x : ℕ) → bit i (x / 2 ^ k) ≡ bit (k + i) x
 bit-shr i k x = ap (λ (y : ℕ). y % 2) (shr-shr x k i)
+
+pub msbFirst-mod : (j k x : ℕ) → j ≤ k → msbFirst j (x % 2 ^ k) ≡ msbFirst j x
+msbFirst-mod zero k x h = refl
+msbFirst-mod (suc j) k x h = cons (bit-mod j k x h) (msbFirst-mod j k x (omega arith))
+
+-- the bits of a number shifted up by one
+pub msbFirst-double : (k x : ℕ) → msbFirst (suc k) (x * 2) ≡ msbFirst k x ++ 0 ∷ []
+msbFirst-double zero x = let e : x * 2 / 1 % 2 ≡ 0 = omega arith in ap (λ (b : ℕ). b ∷ []) e
+msbFirst-double (suc k) x =
+    let e : x * 2 / 2 ≡ x = omega arith in
+    let s : 1 + k ≡ suc k = omega arith in
+    cons (ap (λ (i : ℕ). bit i (x * 2)) (sym s) ∙ sym (bit-shr k 1 (x * 2)) ∙ ap (bit k) e) (msbFirst-double k x)
+
+-- a number of k bits in a row that is j longer
+pub msbFirst-longer : (j k x : ℕ) → x < 2 ^ k → msbFirst (j + k) x ≡ replicate j 0 ++ msbFirst k x
+msbFirst-longer zero k x h = let e : 0 + k ≡ k = omega arith in ap (λ (i : ℕ). msbFirst i x) e
+msbFirst-longer (suc j) k x h =
+    let e : suc j + k ≡ suc (j + k) = omega arith in
+    ap (λ (i : ℕ). msbFirst i x) e ∙ cons (ap (λ (q : ℕ). q % 2) (div-eq-of-lt (lt-of-lt-of-le h (pow-mono (omega arith))))) (msbFirst-longer j k x h)
 
 -- ---- a number below 2 ^ k is known by its lowest k bits
 

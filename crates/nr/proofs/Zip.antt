@@ -110,6 +110,10 @@ pub getD-xors : (p q : List ℕ) (k : ℕ) → k < length p → k < length q →
 unfolding xors
 getD-xors p q k l l′ = getD-zipWith xor p q k 0 0 0 l l′
 
+pub xors-append : (a c b d : List ℕ) → length a ≡ length b → xors (a ++ c) (b ++ d) ≡ xors a b ++ xors c d
+unfolding xors
+xors-append = zipWith-append xor
+
 pub xor-swap : (a b c d : ℕ) → xor (xor a b) (xor c d) ≡ xor (xor a c) (xor b d)
 xor-swap a b c d =
     let e : a + b + (c + d) ≡ a + c + (b + d) = omega arith in

@@ -1,0 +1,2 @@
+-- Laws of the parity register.
+pub mod Register

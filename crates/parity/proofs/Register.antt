@@ -1,0 +1,186 @@
+-- The parity register, step by step, is long division; as a number it is what shifts, masks and exclusive or make.
+-- Assumes nothing.
+use Prim.Native.Nat.{ℕ, zero, suc, _+_, _-_, _*_, _/_, _%_, _^_, _≤_, _<_}
+use native.Mathlib.Nat.{suc-inj, suc-ne-zero, not-suc-le-zero, le-of-suc-le-suc, mod-eq-of-lt}
+use native.Mathlib.Omega.{arith}
+use mathlib.Core.Path.{_≡_, refl, sym, subst, ap, ap₂, _∙_}
+use mathlib.Core.List.{List, [], _∷_, _++_, zipWith, append-nil, append-assoc}
+use lib.Bits.{bitAnd, bitXor, and-le-r, and-mask, mask-lt, xor-zero-r, xor-lt}
+use lib.ListN.{length, getD, take, drop, replicate, length-append, length-replicate, replicate-append-replicate}
+use native.Mathlib.Numerals.{add-one}
+use lib.Seq.{append-snoc, take-suc, take-all}
+use Rattle.nr.specs.Rows.{bit, msbFirst, xor, xors}
+use Rattle.nr.specs.Parity.{addTimes, divide, generator, parity, attach, maskRnti}
+use Rattle.nr.proofs.Zip.{Bits, cons, bits-append, bits-drop, bits-replicate, bits-msbFirst, length-msbFirst, xors-comm, xors-zeros, xors-append}
+use Rattle.nr.proofs.Words.{and-one, msbFirst-xor, msbFirst-mod, msbFirst-double, msbFirst-longer, xor-low}
+use Rattle.nr.proofs.Parity.{low, length-addTimes, bits-addTimes, addTimes-none, addTimes-xors, onesBefore, parity-is, length-parity, bits-parity}
+use Rattle.parity.specs.Register.{taken, Holds}
+
+-- ---- the register is long division
+
+-- after the bits of a row
+pub takenAll : List ℕ → List ℕ → List ℕ
+takenAll register [] = register
+takenAll register (b ∷ bits) = takenAll (taken register b) bits
+
+-- what is added to the front of a row that is longer than the coefficients
+addTimes-front : (c : ℕ) (gs a b : List ℕ) → length a ≡ length gs → addTimes c gs (a ++ b) ≡ addTimes c gs a ++ b
+addTimes-front c [] [] b e = refl
+addTimes-front c [] (x ∷ a) b e = absurd (suc-ne-zero (length a) e)
+addTimes-front c (g ∷ gs) [] b e = absurd (suc-ne-zero (length gs) (sym e))
+addTimes-front c (g ∷ gs) (x ∷ a) b e = cons refl (addTimes-front c gs a b (suc-inj e))
+
+addTimes-once : (gs row : List ℕ) → length row ≡ length gs → addTimes 1 gs row ≡ xors row gs
+unfolding xors zipWith
+addTimes-once [] [] e = refl
+addTimes-once [] (x ∷ row) e = absurd (suc-ne-zero (length row) e)
+addTimes-once (g ∷ gs) [] e = refl
+addTimes-once (g ∷ gs) (x ∷ row) e = cons (omega arith) (addTimes-once gs row (suc-inj e))
+
+length-taken : (x b : ℕ) (rest : List ℕ) → length rest ≡ 23 → length (taken (x ∷ rest) b) ≡ 24
+unfolding taken
+length-taken x b rest e = length-addTimes (xor x b) low (rest ++ 0 ∷ []) ∙ simp length-append (omega arith)
+
+bits-taken : (x b : ℕ) (rest : List ℕ) → Bits rest → Bits (taken (x ∷ rest) b)
+unfolding taken
+bits-taken x b rest p = bits-addTimes (xor x b) low (rest ++ 0 ∷ []) (bits-append rest (0 ∷ []) p (bits-replicate 1 0 (omega arith)))
+
+-- one step of the division of such a row
+one : (x b : ℕ) (rest bits : List ℕ) → length rest ≡ 23
+    → addTimes (xor x b) low (xors (rest ++ replicate (suc (length bits)) 0) (bits ++ replicate 24 0))
+    ≡ xors (taken (x ∷ rest) b ++ replicate (length bits) 0) (bits ++ replicate 24 0)
+unfolding taken
+one x b rest bits e =
+    let more : List ℕ = bits ++ replicate 24 0 in
+    addTimes-xors (xor x b) low (rest ++ replicate (suc (length bits)) 0) more (simp (length-append, length-replicate) (omega arith))
+    ∙ ap (λ (r : List ℕ). xors (addTimes (xor x b) low r) more) (sym (append-snoc rest 0 (replicate (length bits) 0)))
+    ∙ ap (λ (r : List ℕ). xors r more) (addTimes-front (xor x b) low (rest ++ 0 ∷ []) (replicate (length bits) 0) (simp length-append (omega arith)))
+
+-- the register added to the front of what is left of the row
+long-division : (register bits : List ℕ) → length register ≡ 24 → Bits register → Bits bits
+    → divide (length bits) (xors (register ++ replicate (length bits) 0) (bits ++ replicate 24 0)) ≡ takenAll register bits
+unfolding divide generator takenAll xors zipWith
+long-division register [] e p q =
+    ap (λ (r : List ℕ). xors r (replicate 24 0)) (append-nil register) ∙ xors-zeros 24 register e p
+long-division [] (b ∷ bits) e p q = let z : ⊥ = omega arith in absurd z
+long-division (x ∷ rest) (b ∷ bits) e p q =
+    ap (divide (length bits)) (one x b rest bits (suc-inj e))
+    ∙ long-division (taken (x ∷ rest) b) bits (length-taken x b rest (suc-inj e)) (bits-taken x b rest (λ k. p (suc k))) (λ k. q (suc k))
+
+takenAll-append : (register a b : List ℕ) → takenAll register (a ++ b) ≡ takenAll (takenAll register a) b
+unfolding takenAll
+takenAll-append register [] b = refl
+takenAll-append register (x ∷ a) b = takenAll-append (taken register x) a b
+
+-- the register's start: what the 24 ones in front leave
+pub started : List ℕ
+started = msbFirst 24 0x32E241
+
+started-is : takenAll (replicate 24 0) (replicate 24 1) ≡ started
+unfolding taken takenAll started
+started-is = refl
+
+pub parity-taken : (payload : List ℕ) → Bits payload → takenAll started payload ≡ parity payload
+parity-taken payload b =
+    ap (λ (r : List ℕ). takenAll r payload) (sym started-is)
+    ∙ sym (takenAll-append (replicate 24 0) (replicate 24 1) payload)
+    ∙ sym (long-division (replicate 24 0) ones refl (bits-replicate 24 0 (omega arith)) bits)
+    ∙ ap (divide (length ones)) (xors-comm (replicate 24 0 ++ replicate (length ones) 0) (ones ++ replicate 24 0)
+    ∙ ap (xors (ones ++ replicate 24 0)) (replicate-append-replicate 24 (length ones) 0)
+    ∙ xors-zeros (24 + length ones) (ones ++ replicate 24 0) (simp (length-append, length-replicate) (omega arith))
+    (bits-append ones (replicate 24 0) bits (bits-replicate 24 0 (omega arith))))
+    ∙ ap (λ (k : ℕ). divide k (ones ++ replicate 24 0)) (length-append (replicate 24 1) payload)
+    ∙ parity-is payload
+  where
+    ones : List ℕ
+    ones = onesBefore payload
+
+    bits : Bits ones
+    bits = bits-append (replicate 24 1) payload (bits-replicate 24 1 (omega arith)) b
+
+-- one bit more
+pub takenAll-more : (register payload : List ℕ) (i : ℕ) → i < length payload
+    → takenAll register (take (i + 1) payload) ≡ taken (takenAll register (take i payload)) (getD payload i 0)
+unfolding takenAll
+takenAll-more register payload i h =
+    ap (λ (j : ℕ). takenAll register (take j payload)) (add-one i)
+    ∙ ap (takenAll register) (take-suc payload i 0 h) ∙ takenAll-append register (take i payload) (getD payload i 0 ∷ [])
+
+-- ---- the register as a number
+
+module _ (r b : ℕ) (small : r < 2 ^ 24) (isBit : b ≤ 1) where
+  -- the coefficient that leaves on top
+  lead : bitAnd (bitXor (r / 2 ^ 23) b) 1 ≡ xor (bit 23 r) b
+  lead =
+      and-one (bitXor (r / 2 ^ 23) b) ∙ xor-low (r / 2 ^ 23) b
+      ∙ ap (xor (bit 23 r)) (mod-eq-of-lt (omega arith))
+
+  shifted : bitAnd (r * 2 % 2 ^ 32) 0xFFFFFF ≡ r * 2 % 2 ^ 24
+  shifted =
+      let fits : r * 2 % 2 ^ 32 ≡ r * 2 = omega arith in
+      ap (λ (x : ℕ). bitAnd x 0xFFFFFF) fits ∙ and-mask (r * 2) 24
+
+  up : msbFirst 24 (r * 2 % 2 ^ 24) ≡ msbFirst 23 r ++ 0 ∷ []
+  up = msbFirst-mod 24 24 (r * 2) (omega arith) ∙ msbFirst-double 23 r
+
+  -- the generator, as often as the coefficient says
+  pub added : (c : ℕ) → c ≤ 1 → msbFirst 24 (bitXor (r * 2 % 2 ^ 24) (c * 0xB2B117)) ≡ addTimes c low (msbFirst 23 r ++ 0 ∷ [])
+  added zero h = ap (msbFirst 24) (xor-zero-r (r * 2 % 2 ^ 24)) ∙ up ∙ sym (addTimes-none low (msbFirst 23 r ++ 0 ∷ []) (bits-append (msbFirst 23 r) (0 ∷ []) (bits-msbFirst 23 r) (bits-replicate 1 0 (omega arith))))
+  added (suc zero) h = msbFirst-xor 24 (r * 2 % 2 ^ 24) 0xB2B117 ∙ ap (λ (row : List ℕ). xors row low) up ∙ sym (addTimes-once low (msbFirst 23 r ++ 0 ∷ []) (simp (length-append, length-msbFirst)))
+  added (suc (suc c)) h = absurd (not-suc-le-zero (le-of-suc-le-suc h))
+
+  -- what stands in the register then
+  abbrev pub next : ℕ
+  next = bitXor (bitAnd (r * 2 % 2 ^ 32) 0xFFFFFF) (bitAnd (bitXor (r / 2 ^ 23) b) 1 * 0xB2B117)
+
+  pub next-lt : next < 2 ^ 24
+  next-lt =
+      xor-lt 24 (bitAnd (r * 2 % 2 ^ 32) 0xFFFFFF) (bitAnd (bitXor (r / 2 ^ 23) b) 1 * 0xB2B117) (mask-lt (r * 2 % 2 ^ 32) 24)
+      (omega (arith, and-le-r (bitXor (r / 2 ^ 23) b) 1))
+
+  pub fed : msbFirst 24 next ≡ taken (msbFirst 24 r) b
+  unfolding taken
+  fed =
+      ap₂ (λ (x c : ℕ). msbFirst 24 (bitXor x (c * 0xB2B117))) shifted lead
+      ∙ added (xor (bit 23 r) b) (omega arith)
+
+-- ---- the register, before the payload, after each bit, and after all
+
+pub holds-started : Holds (takenAll started []) 0x32E241
+unfolding takenAll started
+holds-started = record { small = omega arith; bits = refl }
+
+pub holds-more : (i r r′ : ℕ) (payload : List ℕ) → i < length payload → Holds (takenAll started (take i payload)) r
+    → Holds (taken (msbFirst 24 r) (getD payload i 0)) r′ → Holds (takenAll started (take (i + 1) payload)) r′
+holds-more i r r′ payload l h h′ = record {
+  small = h′ .small;
+  bits = h′ .bits ∙ ap (λ (row : List ℕ). taken row (getD payload i 0)) (h .bits) ∙ sym (takenAll-more started payload i l);
+}
+
+pub holds-parity : (i r : ℕ) (payload : List ℕ) → Bits payload → length payload ≤ i → Holds (takenAll started (take i payload)) r → Holds (parity payload) r
+holds-parity i r payload b l h = record {
+  small = h .small;
+  bits = h .bits ∙ ap (takenAll started) (take-all i payload l) ∙ parity-taken payload b;
+}
+
+-- ---- the RNTI
+
+pub masked : (payload : List ℕ) (p rnti : ℕ) → Bits payload → Holds (parity payload) p → rnti < 2 ^ 16
+    → payload ++ msbFirst 24 (bitXor p rnti) ≡ maskRnti rnti (attach payload)
+unfolding maskRnti attach
+masked payload p rnti b h l = sym (ap (xors (payload ++ parity payload)) mask ∙ joined ∙ ap₂ (λ (x y : List ℕ). x ++ y) (xors-zeros (length payload) payload refl b) ending)
+  where
+    mask : replicate (length (payload ++ parity payload) - 16) 0 ++ msbFirst 16 rnti ≡ replicate (length payload) 0 ++ msbFirst 24 rnti
+    mask =
+        let e : length (payload ++ parity payload) - 16 ≡ length payload + 8 = rw length-append (omega (arith, length-parity payload)) in
+        ap (λ (k : ℕ). replicate k 0 ++ msbFirst 16 rnti) e
+        ∙ ap (λ (r : List ℕ). r ++ msbFirst 16 rnti) (sym (replicate-append-replicate (length payload) 8 0))
+        ∙ append-assoc (replicate (length payload) 0) (replicate 8 0) (msbFirst 16 rnti)
+        ∙ ap (λ (r : List ℕ). replicate (length payload) 0 ++ r) (sym (msbFirst-longer 8 16 rnti l))
+
+    ending : xors (parity payload) (msbFirst 24 rnti) ≡ msbFirst 24 (bitXor p rnti)
+    ending = ap (λ (r : List ℕ). xors r (msbFirst 24 rnti)) (sym (h .bits)) ∙ sym (msbFirst-xor 24 p rnti)
+
+    joined : xors (payload ++ parity payload) (replicate (length payload) 0 ++ msbFirst 24 rnti)
+        ≡ xors payload (replicate (length payload) 0) ++ xors (parity payload) (msbFirst 24 rnti)
+    joined = xors-append payload (parity payload) (replicate (length payload) 0) (msbFirst 24 rnti) (sym (length-replicate (length payload) 0))

@@ -1,0 +1,2 @@
+-- What the register of the code does, as a row of bits.
+pub mod Register

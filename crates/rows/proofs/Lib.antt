@@ -1,0 +1,3 @@
+-- Laws for loops over rows.
+pub mod Filling
+pub mod Parts
