@@ -1,0 +1,68 @@
+//! Every accepted pair (A, E), with random and extreme payloads and numbers.
+
+use conformance::{Call, Random, accepted_pairs};
+use speltfeather::Numbers;
+
+const SEED: u64 = 0x38212;
+const RANDOM_CALLS: usize = 8;
+
+/// The payloads and numbers that are tried for a pair.
+fn calls(a: u64, e: u64, random: &mut Random) -> Vec<Call> {
+    let mut calls = Vec::new();
+    for bit in [0, 1] {
+        for (rnti, n_id) in [(0, 0), (0, 0xFFFF), (0xFFFF, 0), (0xFFFF, 0xFFFF)] {
+            let numbers = Numbers { a, e, rnti, n_id };
+            calls.push(Call::fitting(numbers, vec![bit; a as usize], random));
+        }
+    }
+    for _ in 0..RANDOM_CALLS {
+        let (rnti, n_id) = (random.u16(), random.u16());
+        let payload = random.bits(a as usize);
+        calls.push(Call::fitting(Numbers { a, e, rnti, n_id }, payload, random));
+    }
+    calls
+}
+
+#[test]
+fn library_gives_what_the_reference_gives() {
+    let pairs = accepted_pairs();
+    assert_eq!(pairs.len(), 589);
+    let mut random = Random::new(SEED);
+    let mut compared = 0;
+    for (a, e) in pairs {
+        for call in calls(a, e, &mut random) {
+            let outcome = call.library();
+            assert_eq!(outcome.number, 0, "seed {SEED:#x}, {call:?}");
+            assert_eq!(outcome, call.reference(), "seed {SEED:#x}, {call:?}");
+            compared += 1;
+        }
+    }
+    assert_eq!(compared, 589 * (8 + RANDOM_CALLS));
+}
+
+#[test]
+fn each_payload_bit_counts() {
+    // A bit that is left out, or read from the wrong place, shows in a payload with a single 1.
+    let mut random = Random::new(SEED);
+    let mut compared = 0;
+    for (a, e) in [
+        (12, 108),
+        (84, 108),
+        (70, 216),
+        (71, 216),
+        (140, 432),
+        (140, 1728),
+    ] {
+        for place in 0..a as usize {
+            let mut payload = vec![0; a as usize];
+            payload[place] = 1;
+            let (rnti, n_id) = (random.u16(), random.u16());
+            let call = Call::fitting(Numbers { a, e, rnti, n_id }, payload, &mut random);
+            let outcome = call.library();
+            assert_eq!(outcome.number, 0, "seed {SEED:#x}, {call:?}");
+            assert_eq!(outcome, call.reference(), "seed {SEED:#x}, {call:?}");
+            compared += 1;
+        }
+    }
+    assert_eq!(compared, 12 + 84 + 70 + 71 + 140 + 140);
+}

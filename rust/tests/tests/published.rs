@@ -1,0 +1,152 @@
+//! The library's output against published words and against the scope paper's examples.
+
+use conformance::{Call, Random, sent_bits};
+use reference::{Kind, Layout, construction, layout, published, rate_matching, selected};
+use speltfeather::Numbers;
+
+const SEED: u64 = 0x732;
+const IDENTITIES: [u16; 5] = [0, 1, 0x1234, 0x8000, 0xFFFF];
+
+/// The code word that sent bits came from; what was not sent is taken from `unsent`.
+fn code_word_of(layout: &Layout, sent: &[u8], unsent: &[u8]) -> Vec<u8> {
+    let mut d = unsent.to_vec();
+    for (&i, &bit) in selected(layout).iter().zip(sent) {
+        d[rate_matching::sub_block(i, layout.length())] = bit;
+    }
+    d
+}
+
+#[test]
+fn hardware_word_is_sent() {
+    let mut random = Random::new(SEED);
+    let code = published::hardware_layout();
+    let word = published::hardware_code_word();
+    let payload = published::hardware_payload().expect("a code word");
+    for n_id in IDENTITIES {
+        let numbers = Numbers {
+            a: 78,
+            e: 108,
+            rnti: 0,
+            n_id,
+        };
+        let sent = sent_bits(numbers, &payload, &mut random);
+        assert_eq!(sent, rate_matching::matched(&code, &word), "n_ID {n_id}");
+        // Shortened code bits are 0, so the sent ones give the whole word.
+        assert_eq!(code_word_of(&code, &sent, &[0; 128]), word, "n_ID {n_id}");
+    }
+}
+
+#[test]
+fn recorded_message_is_coded() {
+    let mut random = Random::new(SEED);
+    let payload = published::recorded_payload();
+    let rnti = published::SI_RNTI;
+    for n_id in IDENTITIES {
+        let numbers = Numbers {
+            a: 37,
+            e: 432,
+            rnti,
+            n_id,
+        };
+        let call = Call::fitting(numbers, payload.clone(), &mut random);
+        let outcome = call.library();
+        assert_eq!(outcome.number, 0);
+        assert_eq!(outcome, call.reference(), "n_ID {n_id}");
+    }
+    let mut weakest = layout(37, 432).expect("accepted").chosen;
+    weakest.sort_unstable_by_key(|&position| construction::rank(position));
+    let u = reference::placed(37, 432, rnti, &payload);
+    assert_eq!([u[weakest[0]], u[weakest[1]], u[weakest[2]]], [0, 0, 1]);
+}
+
+#[test]
+fn length_864_sends_the_first_352_twice() {
+    let mut random = Random::new(SEED);
+    for a in [12, 40, 140] {
+        let payload = random.bits(a);
+        let numbers = Numbers {
+            a: a as u64,
+            e: 864,
+            rnti: 0x4601,
+            n_id: 77,
+        };
+        let sent = sent_bits(numbers, &payload, &mut random);
+        assert_eq!(sent[..352], sent[512..]);
+        let d = code_word_of(&layout(numbers.a, 864).expect("accepted"), &sent, &[0; 512]);
+        assert_eq!(
+            d,
+            reference::code_word(numbers.a, 864, numbers.rnti, &payload)
+        );
+    }
+}
+
+#[test]
+fn length_1728_sends_the_first_192_four_times_and_the_rest_three_times() {
+    let mut random = Random::new(SEED);
+    for a in [12, 40, 140] {
+        let payload = random.bits(a);
+        let numbers = Numbers {
+            a: a as u64,
+            e: 1728,
+            rnti: 0x4601,
+            n_id: 77,
+        };
+        let sent = sent_bits(numbers, &payload, &mut random);
+        assert_eq!(sent[..512], sent[512..1024]);
+        assert_eq!(sent[..512], sent[1024..1536]);
+        assert_eq!(sent[..192], sent[1536..]);
+        let d = code_word_of(
+            &layout(numbers.a, 1728).expect("accepted"),
+            &sent,
+            &[0; 512],
+        );
+        assert_eq!(
+            d,
+            reference::code_word(numbers.a, 1728, numbers.rnti, &payload)
+        );
+    }
+}
+
+#[test]
+fn size_78_at_108_has_128_code_bits() {
+    let mut random = Random::new(SEED);
+    let code = layout(78, 108).expect("accepted");
+    assert_eq!((code.length(), code.kind), (128, Kind::Shortening));
+    for _ in 0..20 {
+        let payload = random.bits(78);
+        let numbers = Numbers {
+            a: 78,
+            e: 108,
+            rnti: 0x4601,
+            n_id: 500,
+        };
+        let sent = sent_bits(numbers, &payload, &mut random);
+        let d = code_word_of(&code, &sent, &[0; 128]);
+        assert_eq!(reference::payload_of(&code, &d, 0x4601), Some(payload));
+    }
+}
+
+#[test]
+fn size_37_at_432_has_512_code_bits() {
+    let mut random = Random::new(SEED);
+    let code = layout(37, 432).expect("accepted");
+    assert_eq!((code.length(), code.kind), (512, Kind::Puncturing));
+    for _ in 0..20 {
+        let payload = random.bits(37);
+        let numbers = Numbers {
+            a: 37,
+            e: 432,
+            rnti: 0x4601,
+            n_id: 500,
+        };
+        let sent = sent_bits(numbers, &payload, &mut random);
+        assert_ne!(
+            sent[..176],
+            sent[256..],
+            "as if a code of 256 bits were repeated"
+        );
+        let whole = reference::code_word(37, 432, 0x4601, &payload);
+        let d = code_word_of(&code, &sent, &whole);
+        assert_eq!(reference::payload_of(&code, &d, 0x4601), Some(payload));
+    }
+}
