@@ -46,7 +46,7 @@ distinct-map g (y ∷ ys) inj t =
     subst (λ (z : ℕ). T (has z ys)) (sym (inj y (s .0) (here y ys) (there (s .0) y ys (s .1)) (s .2))) (s .1)))
     (distinct-map g ys (λ a b p q. inj a b (there a y ys p) (there b y ys q)) (right (not (has y ys)) (distinct ys) t))
 
-table-below : T (all (λ x. ltb x 164) interleaver)
+pub table-below : T (all (λ x. ltb x 164) interleaver)
 unfolding interleaver
 table-below = tt
 

@@ -3,6 +3,7 @@ pub mod Tests
 pub mod Rows
 pub mod Zip
 pub mod Words
+pub mod Sifting
 pub mod Transform
 pub mod SuccessiveDecoder
 pub mod SubBlocks

@@ -3,17 +3,17 @@
 use Prim.Native.Nat.{ℕ, zero, suc, _+_, _-_, _*_, _/_, _%_, _^_, _≤_, _<_}
 use native.Mathlib.Nat.{suc-inj, suc-ne-zero, not-suc-le-zero, le-of-suc-le-suc, mod-eq-of-lt}
 use native.Mathlib.Omega.{arith}
-use mathlib.Core.Path.{_≡_, refl, sym, subst, ap, ap₂, _∙_}
+use mathlib.Core.Path.{_≡_, refl, sym, ap, ap₂, _∙_}
 use mathlib.Core.List.{List, [], _∷_, _++_, zipWith, append-nil, append-assoc}
 use lib.Bits.{bitAnd, bitXor, and-le-r, and-mask, mask-lt, xor-zero-r, xor-lt}
-use lib.ListN.{length, getD, take, drop, replicate, length-append, length-replicate, replicate-append-replicate}
+use lib.ListN.{length, getD, take, replicate, length-append, length-replicate, replicate-append-replicate}
 use native.Mathlib.Numerals.{add-one}
 use lib.Seq.{append-snoc, take-suc, take-all}
 use Rattle.nr.specs.Rows.{bit, msbFirst, xor, xors}
 use Rattle.nr.specs.Parity.{addTimes, divide, generator, parity, attach, maskRnti}
-use Rattle.nr.proofs.Zip.{Bits, cons, bits-append, bits-drop, bits-replicate, bits-msbFirst, length-msbFirst, xors-comm, xors-zeros, xors-append}
+use Rattle.nr.proofs.Zip.{Bits, cons, bits-append, bits-replicate, bits-msbFirst, length-msbFirst, xors-comm, xors-zeros, xors-append}
 use Rattle.nr.proofs.Words.{and-one, msbFirst-xor, msbFirst-mod, msbFirst-double, msbFirst-longer, xor-low}
-use Rattle.nr.proofs.Parity.{low, length-addTimes, bits-addTimes, addTimes-none, addTimes-xors, onesBefore, parity-is, length-parity, bits-parity}
+use Rattle.nr.proofs.Parity.{low, length-addTimes, bits-addTimes, addTimes-none, addTimes-xors, onesBefore, parity-is, length-parity}
 use Rattle.parity.specs.Register.{taken, Holds}
 
 -- ---- the register is long division

@@ -1,13 +1,13 @@
 -- A loop that fills a row from the front, one store a turn: after i turns it holds the first i entries of the new row,
 -- and the old row's from there on.
 -- Assumes nothing.
-use Prim.Native.Nat.{ℕ, zero, suc, _+_, _≤_, _<_}
+use Prim.Native.Nat.{ℕ, suc, _+_, _≤_, _<_}
 use native.Mathlib.Numerals.{add-one}
 use native.Mathlib.Omega.{arith}
 use mathlib.Core.Path.{_≡_, refl, sym, ap, _∙_}
-use mathlib.Core.List.{List, [], _∷_, _++_, append-nil}
+use mathlib.Core.List.{List, _∷_, _++_, append-nil}
 use lib.ListN.{length, getD, set, take, drop, length-append, length-drop}
-use lib.Seq.{set-at, take-suc, drop-cons, append-snoc, take-all, take-length, drop-length, length-take-le}
+use lib.Seq.{set-at, take-suc, drop-cons, append-snoc, take-length, drop-length, length-take-le}
 
 module _ {A : Type 0} where
   pub record Filling (old new row : List A) (i : ℕ) : Type 0 where

@@ -2,7 +2,7 @@
 -- Assumes nothing.
 use Prim.Native.Nat.{ℕ}
 use native.Mathlib.Omega.{arith}
-use mathlib.Core.Path.{_≡_, sym, ap, ap₂, _∙_}
+use mathlib.Core.Path.{sym, ap, ap₂, _∙_}
 use mathlib.Core.List.{List, _++_}
 use lib.ListN.{length}
 use lib.Seq.{length-take-le}
@@ -11,53 +11,38 @@ use Rattle.parity.proofs.Register.{masked}
 use borrow.Author.Needs.{needs}
 use Rattle.parity.proofs.attach.Statement.{statement}
 use Rattle.parity.proofs.attach.Tie as tie
-use Rattle.parity.proofs.attach.Reads as reads
-use Rattle.parity.proofs.attach.Lts as lts
-use Rattle.parity.proofs.parity.Reads as parity-reads
-use Rattle.parity.proofs.write_bits.Reads as write-bits-reads
-use Rattle.rows.proofs.copy.Reads as copy-reads
 
--- src/lib.rt:58:25
 slice-relend-prefix-copy : tie.Need-slice-relend-prefix-copy
 slice-relend-prefix-copy c = search needs
 
--- src/lib.rt:58:25
 slice-aggregate-copy : tie.Need-slice-aggregate-copy
 slice-aggregate-copy c =
     let a = c .before .before .before .args in
     sym (length-take-le (length (a .payload .now)) (a .row .now) (omega arith))
 
--- src/lib.rt:58:5
 copy-requires : tie.Need-copy-requires
 copy-requires c κs =
     let a = c .before .before .before .args in
     length-take-le (length (a .payload .now)) (a .row .now) (omega arith)
 
--- src/lib.rt:59:16
 parity-requires : tie.Need-parity-requires
 parity-requires c κs = search needs
 
--- src/lib.rt:59:49
 sub-write-bits : tie.Need-sub-write-bits
 sub-write-bits c = search needs
 
--- src/lib.rt:59:49
 part-write-bits-start : tie.Need-part-write-bits-start
 part-write-bits-start c = search needs
 
--- src/lib.rt:59:49
 part-write-bits-end : tie.Need-part-write-bits-end
 part-write-bits-end c = search needs
 
--- src/lib.rt:59:5
 write-bits-requires : tie.Need-write-bits-requires
 write-bits-requires c κs = search needs
 
--- src/lib.rt:53:1
 same-length : tie.Need-same-length
 same-length c = search needs
 
--- src/lib.rt:53:1
 returns : tie.Need-returns
 returns c =
     let w = c .before .before .write-bits in

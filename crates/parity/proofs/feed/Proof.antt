@@ -6,14 +6,10 @@ use lib.Bits.{bitXor, and-le-r}
 use Rattle.parity.proofs.Register.{next-lt, fed}
 use Rattle.parity.proofs.feed.Statement.{statement}
 use Rattle.parity.proofs.feed.Tie as tie
-use Rattle.parity.proofs.feed.Reads as reads
-use Rattle.parity.proofs.feed.Lts as lts
 
--- src/lib.rt:23:37
 mul-result : tie.Need-mul-result
 mul-result c = omega (arith, and-le-r (bitXor (c .args .register / 2 ^ 23) (c .args .bit)) 1)
 
--- src/lib.rt:18:1
 returns : tie.Need-returns
 returns c =
     let a = c .args in

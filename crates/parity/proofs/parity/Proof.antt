@@ -1,19 +1,12 @@
 -- `parity::parity` meets its contract.
 -- Assumes nothing.
-use Prim.Native.Nat.{ℕ, _-_, _^_, _≤_, _<_}
+use Prim.Native.Nat.{_-_, _≤_}
 use native.Mathlib.Omega.{arith}
-use mathlib.Core.Path.{_≡_, refl, sym, ap, _∙_}
-use mathlib.Core.List.{List}
-use lib.ListN.{length, take, getD}
-use lib.Seq.{take-all}
-use Rattle.nr.specs.Rows.{msbFirst}
+use lib.ListN.{length, take}
 use Rattle.parity.specs.Register.{Holds}
 use Rattle.parity.proofs.Register.{takenAll, started, holds-started, holds-more, holds-parity}
 use Rattle.parity.proofs.parity.Statement.{statement}
 use Rattle.parity.proofs.parity.Tie as tie
-use Rattle.parity.proofs.parity.Reads as reads
-use Rattle.parity.proofs.parity.Lts as lts
-use Rattle.parity.proofs.feed.Reads as feed-reads
 
 abbrev Inv-loop : tie.InvT-loop
 Inv-loop payload register₀ i₀ register i =
@@ -22,35 +15,28 @@ Inv-loop payload register₀ i₀ register i =
 abbrev μ-loop : tie.MeasureT-loop
 μ-loop payload register₀ i₀ register i = length payload - i
 
--- src/lib.rt:33:5
 loop-holds : tie.Need-loop-holds Inv-loop μ-loop
 loop-holds c = (omega arith, holds-started)
 
--- src/lib.rt:34:35
 shared-slice-read-feed : tie.Need-shared-slice-read-feed Inv-loop μ-loop
 shared-slice-read-feed c = omega arith
 
--- src/lib.rt:34:9
 feed-requires : tie.Need-feed-requires Inv-loop μ-loop
 feed-requires c κs =
     let s = c .before .before in
     (s .loop .inv .1 .small, s .before .before .pre (s .loop .i))
 
--- src/lib.rt:35:9
 add-i : tie.Need-add-i Inv-loop μ-loop
 add-i c = omega arith
 
--- src/lib.rt:33:5
 loop-less : tie.Need-loop-less Inv-loop μ-loop
 loop-less c = omega arith
 
--- src/lib.rt:33:5
 loop-again : tie.Need-loop-again Inv-loop μ-loop
 loop-again c =
     let s = c .before .before .before in
     (omega arith, holds-more (s .loop .i) (s .loop .register) (c .feed .result) (s .before .before .args .payload .now) (omega arith) (s .loop .inv .1) (c .feed .ensures))
 
--- src/lib.rt:27:1
 returns : tie.Need-returns Inv-loop μ-loop
 returns c =
     let s = c .before in

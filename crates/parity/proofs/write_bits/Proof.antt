@@ -2,8 +2,7 @@
 -- Assumes nothing.
 use Prim.Native.Nat.{_-_, _/_, _^_}
 use native.Mathlib.Omega.{arith}
-use mathlib.Core.Path.{_≡_, refl, sym, ap, _∙_}
-use lib.ListN.{length, take, getD}
+use mathlib.Core.Path.{sym, _∙_}
 use lib.Bits.{and-le-r}
 use Rattle.nr.specs.Rows.{msbFirst}
 use Rattle.nr.proofs.Zip.{length-msbFirst}
@@ -11,8 +10,6 @@ use Rattle.nr.proofs.Words.{and-one, getD-msbFirst}
 use Rattle.rows.proofs.Filling.{Filling, filling, filling-more, filled, filling-length}
 use Rattle.parity.proofs.write_bits.Statement.{statement}
 use Rattle.parity.proofs.write_bits.Tie as tie
-use Rattle.parity.proofs.write_bits.Reads as reads
-use Rattle.parity.proofs.write_bits.Lts as lts
 
 abbrev Inv-loop : tie.InvT-loop
 Inv-loop word row₀ i₀ row i = Filling row₀ (msbFirst 24 word) row i
@@ -20,50 +17,39 @@ Inv-loop word row₀ i₀ row i = Filling row₀ (msbFirst 24 word) row i
 abbrev μ-loop : tie.MeasureT-loop
 μ-loop word row₀ i₀ row i = 24 - i
 
--- src/lib.rt:46:5
 loop-holds : tie.Need-loop-holds Inv-loop μ-loop
 loop-holds c = filling _ _ (c .pre ∙ sym (length-msbFirst 24 (c .args .word)))
 
--- src/lib.rt:47:29
 sub-row : tie.Need-sub-row Inv-loop μ-loop
 sub-row c = omega arith
 
--- src/lib.rt:47:29
 cast-row : tie.Need-cast-row Inv-loop μ-loop
 cast-row c = omega arith
 
--- src/lib.rt:47:20
 shr-row : tie.Need-shr-row Inv-loop μ-loop
 shr-row c = omega arith
 
--- src/lib.rt:47:18
 cast-row-2 : tie.Need-cast-row-2 Inv-loop μ-loop
 cast-row-2 c = omega (arith, and-le-r (c .before .before .args .word / 2 ^ (23 - c .before .loop .i)) 1)
 
--- src/lib.rt:47:9
 slice-write-row : tie.Need-slice-write-row Inv-loop μ-loop
 slice-write-row c = omega (arith, filling-length (c .before .loop .inv), c .before .before .pre)
 
--- src/lib.rt:48:9
 add-i : tie.Need-add-i Inv-loop μ-loop
 add-i c = omega arith
 
--- src/lib.rt:46:5
 loop-less : tie.Need-loop-less Inv-loop μ-loop
 loop-less c = omega arith
 
--- src/lib.rt:46:5
 loop-again : tie.Need-loop-again Inv-loop μ-loop
 loop-again c =
     let w = c .before .before .args .word in
     let i = c .before .loop .i in
     filling-more (c .before .loop .inv) _ 0 (omega (arith, length-msbFirst 24 w)) (and-one (w / 2 ^ (23 - i)) ∙ sym (getD-msbFirst 24 w i (omega arith)))
 
--- src/lib.rt:41:1
 same-length : tie.Need-same-length Inv-loop μ-loop
 same-length c = filling-length (c .before .loop .inv)
 
--- src/lib.rt:41:1
 returns : tie.Need-returns Inv-loop μ-loop
 returns c = filled (c .before .loop .inv) (omega (arith, length-msbFirst 24 (c .before .before .args .word)))
 

@@ -2,13 +2,11 @@
 -- Assumes nothing.
 use Prim.Native.Nat.{_-_}
 use native.Mathlib.Omega.{arith}
-use mathlib.Core.Path.{_≡_, refl, sym}
-use lib.ListN.{length, getD}
+use mathlib.Core.Path.{refl}
+use lib.ListN.{length}
 use Rattle.rows.proofs.Filling.{Filling, filling, filling-more, filled, filling-length}
 use Rattle.rows.proofs.copy.Statement.{statement}
 use Rattle.rows.proofs.copy.Tie as tie
-use Rattle.rows.proofs.copy.Reads as reads
-use Rattle.rows.proofs.copy.Lts as lts
 
 abbrev Inv-loop : tie.InvT-loop
 Inv-loop from to₀ i₀ to i = Filling to₀ from to i
