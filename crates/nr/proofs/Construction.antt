@@ -100,7 +100,7 @@ least-test : T (everyPair (λ K E. leb K (least (rateMatching K E) E)))
 unfolding log2up n1 n2 n lowRate rateMatching
 least-test = tt
 
-enough : (K E : ℕ) → Sized K E → K ≤ length (free (rateMatching K E) (N K E) E)
+pub enough : (K E : ℕ) → Sized K E → K ≤ length (free (rateMatching K E) (N K E) E)
 enough K E c =
     let kind : RateMatching = rateMatching K E in
     let l : K ≤ least kind E = leb→le K (least kind E) (at (λ B F. leb B (least (rateMatching B F) F)) least-test K E c) in

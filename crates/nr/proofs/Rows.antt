@@ -3,7 +3,7 @@
 use Prim.Native.Nat.{ℕ, zero, suc, _+_, _-_, _≤_, _<_}
 use native.Mathlib.Nat.{not-suc-le-zero, le-of-suc-le-suc}
 use native.Mathlib.Omega.{arith}
-use mathlib.Core.Logic.{inl, inr}
+use mathlib.Core.Logic.{_⊎_, inl, inr}
 use mathlib.Core.Path.{_≡_, refl, sym, subst, ap, _∙_}
 use mathlib.Core.Bool.{Bool, true, false, cond, not, _||_}
 use mathlib.Core.List.{List, [], _∷_, _++_, map}
@@ -111,6 +111,25 @@ module _ (g : ℕ → ℕ) where
     | inl e ↦ (y, here y ys, e)
     | inr u ↦ let s = source ys z u in (s .0, there (s .0) y ys (s .1), s .2)
   ]
+
+-- an entry of two joined rows is an entry of one of them
+pub has-left : (x : ℕ) (a b : List ℕ) → T (has x a) → T (has x (a ++ b))
+has-left x [] b h = absurd h
+has-left x (y ∷ a) b h = elim (cases x y a h) [
+  | inl e ↦ subst (λ (z : ℕ). T (has x (z ∷ (a ++ b)))) e (here x (a ++ b))
+  | inr u ↦ there x y (a ++ b) (has-left x a b u)
+]
+
+pub has-right : (x : ℕ) (a b : List ℕ) → T (has x b) → T (has x (a ++ b))
+has-right x [] b h = h
+has-right x (y ∷ a) b h = there x y (a ++ b) (has-right x a b h)
+
+pub has-either : (x : ℕ) (a b : List ℕ) → T (has x (a ++ b)) → T (has x a) ⊎ T (has x b)
+has-either x [] b h = inr h
+has-either x (y ∷ a) b h = elim (cases x y (a ++ b) h) [
+  | inl e ↦ inl (subst (λ (z : ℕ). T (has x (z ∷ a))) e (here x a))
+  | inr u ↦ elim (has-either x a b u) [ inl v ↦ inl (there x y a v) | inr v ↦ inr v ]
+]
 
 -- what is not in two joined rows is not in the first
 pub not-has-left : (x : ℕ) (a b : List ℕ) → T (not (has x (a ++ b))) → T (not (has x a))

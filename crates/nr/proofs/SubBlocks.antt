@@ -32,12 +32,12 @@ rise : T (all (λ e. all (λ b. eqb (bit e b) 1 || leb (place b P) (place (b + 2
 unfolding P
 rise = tt
 
-forth-at : (j : ℕ) → j < 32 → (place (getD P j 0) P ≡ j) × (getD P j 0 < 32)
+pub forth-at : (j : ℕ) → j < 32 → (place (getD P j 0) P ≡ j) × (getD P j 0 < 32)
 forth-at j h =
     let t = all-count (λ j. eqb (place (getD P j 0) P) j && ltb (getD P j 0) 32) 0 32 forth j (omega arith) (omega arith) in
     (eqb→eq (place (getD P j 0) P) j (left (eqb (place (getD P j 0) P) j) _ t), ltb→lt (getD P j 0) 32 (right (eqb (place (getD P j 0) P) j) _ t))
 
-back-at : (b : ℕ) → b < 32 → (getD P (place b P) 0 ≡ b) × (place b P < 32)
+pub back-at : (b : ℕ) → b < 32 → (getD P (place b P) 0 ≡ b) × (place b P < 32)
 back-at b h =
     let t = all-count (λ b. eqb (getD P (place b P) 0) b && ltb (place b P) 32) 0 32 back b (omega arith) (omega arith) in
     (eqb→eq (getD P (place b P) 0) b (left (eqb (getD P (place b P) 0) b) _ t), ltb→lt (place b P) 32 (right (eqb (getD P (place b P) 0) b) _ t))
@@ -66,7 +66,7 @@ module _ (k : ℕ) where
       let v : 2 ^ (k + 5) / 32 ≡ 2 ^ k = ap (λ x. x / 32) size ∙ mul-div-cancel (2 ^ k) (omega arith) in
       ap₂ (λ x y. getD P x 0 * y + i % y) u v
 
-  inside : (i : ℕ) → i < 2 ^ (k + 5) → i / 2 ^ k < 32
+  pub inside : (i : ℕ) → i < 2 ^ (k + 5) → i / 2 ^ k < 32
   inside i h = div-lt-iff-lt-mul (pow-pos k) .1 (subst (λ x. i < x) (size ∙ mul-comm (2 ^ k) 32) h)
 
   below : (b p : ℕ) → b < 32 → b * 2 ^ k + p % 2 ^ k < 2 ^ (k + 5)

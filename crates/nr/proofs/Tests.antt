@@ -64,6 +64,13 @@ off false false t r = tt
 pub holds : {b : Bool} → b ≡ true → T b
 holds e = subst T (sym e) tt
 
+-- two tests that pass alike
+pub alike : (a b : Bool) → (T a → T b) → (T b → T a) → a ≡ b
+alike true true f g = refl
+alike true false f g = absurd (f tt)
+alike false true f g = absurd (g tt)
+alike false false f g = refl
+
 pub clash : {X : Type 0} {b : Bool} → b ≡ true → b ≡ false → X
 clash {X} {b} e e′ = absurd (subst T e′ (holds e))
 

@@ -1,13 +1,13 @@
 -- The bits of numbers under the operations of words: shifts, masks and exclusive or.
 -- Assumes nothing.
 use Prim.Native.Nat.{ℕ, zero, suc, _+_, _-_, _*_, _/_, _%_, _^_, _≤_, _<_}
-use native.Mathlib.Nat.{not-suc-le-zero, le-of-suc-le-suc, lt-of-lt-of-le, div-eq-of-lt, pow-suc}
+use native.Mathlib.Nat.{not-suc-le-zero, le-of-suc-le-suc, lt-of-lt-of-le, div-eq-of-lt, mod-eq-of-lt, one-mul, pow-suc}
 use native.Mathlib.Omega.{arith}
 use mathlib.Core.Path.{_≡_, refl, sym, ap, ap₂, _∙_}
 use mathlib.Core.List.{List, [], _∷_, _++_, zipWith}
 use lib.Bits.{differ, bitAnd, bitXor, xor-step, xor-shr, and-mask}
 use lib.ListN.{getD, replicate}
-use lib.Pow.{pow-mono, shr-shr, field, mod-pow-add}
+use lib.Pow.{pow-mono, pow-lt, shr-shr, field, mod-pow-add}
 use Rattle.nr.specs.Rows.{bit, msbFirst, xor, xors}
 use Rattle.nr.proofs.Zip.{cons}
 
@@ -75,6 +75,10 @@ bit-shr i k x = ap (λ (y : ℕ). y % 2) (shr-shr x k i)
 pub msbFirst-mod : (j k x : ℕ) → j ≤ k → msbFirst j (x % 2 ^ k) ≡ msbFirst j x
 msbFirst-mod zero k x h = refl
 msbFirst-mod (suc j) k x h = cons (bit-mod j k x h) (msbFirst-mod j k x (omega arith))
+
+-- a power of two by a shift of 1, in a word of 64 bits
+pub shl-one : (k : ℕ) → k < 64 → 1 * 2 ^ k % 2 ^ 64 ≡ 2 ^ k
+shl-one k h = ap (λ (x : ℕ). x % 2 ^ 64) (one-mul (2 ^ k)) ∙ mod-eq-of-lt (pow-lt h)
 
 -- the bits of a number shifted up by one
 pub msbFirst-double : (k x : ℕ) → msbFirst (suc k) (x * 2) ≡ msbFirst k x ++ 0 ∷ []

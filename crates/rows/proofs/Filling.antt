@@ -6,7 +6,7 @@ use native.Mathlib.Numerals.{add-one}
 use native.Mathlib.Omega.{arith}
 use mathlib.Core.Path.{_≡_, refl, sym, ap, _∙_}
 use mathlib.Core.List.{List, _∷_, _++_, append-nil}
-use lib.ListN.{length, getD, set, take, drop, length-append, length-drop}
+use lib.ListN.{length, getD, set, take, drop, length-append, length-drop, take-append-drop}
 use lib.Seq.{set-at, take-suc, drop-cons, append-snoc, take-length, drop-length, length-take-le}
 
 module _ {A : Type 0} where
@@ -42,6 +42,10 @@ module _ {A : Type 0} where
         ∙ ap (λ (r : List A). r ++ drop (length new) old) (take-length new)
         ∙ ap (λ (j : ℕ). new ++ drop j old) (sym (f .size))
         ∙ ap (λ (r : List A). new ++ r) (drop-length old) ∙ append-nil new
+
+    -- also where the rest of the old row is that of the new one
+    pub filled-early : drop i old ≡ drop i new → row ≡ new
+    filled-early e = f .holds ∙ ap (λ (r : List A). take i new ++ r) e ∙ take-append-drop i new
 
     pub filling-length : length row ≡ length old
     filling-length =

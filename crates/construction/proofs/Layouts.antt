@@ -1,0 +1,59 @@
+-- What the marked positions come to: document 01's information positions.
+-- Assumes nothing.
+use Prim.Native.Nat.{ℕ, zero, suc, _-_, _^_, _≤_}
+use native.Mathlib.Nat.{not-suc-le-zero, le-of-suc-le-suc}
+use native.Mathlib.Omega.{arith}
+use mathlib.Core.Path.{_≡_, refl, sym, subst, ap, _∙_}
+use mathlib.Core.Bool.{Bool, true, false, not, cond}
+use mathlib.Core.List.{List, _∷_}
+use lib.Dec.{eqb}
+use lib.ListN.{length, getD, take, replicate}
+use Rattle.nr.specs.Rows.{count, has, keep, last}
+use Rattle.nr.specs.Reliability.{reliability}
+use Rattle.nr.specs.SuccessiveDecoder.{marks}
+use Rattle.nr.specs.Construction.{N, n, rateMatching, free, chosen, layout}
+use Rattle.nr.proofs.Rows.{keep-cong, ranged}
+use Rattle.nr.proofs.Construction.{Sized, exponent, n-by-length, enough, positions}
+use Rattle.construction.specs.declared.Window.{Window}
+use Rattle.construction.specs.Window.{usable, admits, marked}
+use Rattle.construction.proofs.Choice.{length-marks, marks-at}
+
+pub take-replicate : (m n a : ℕ) → m ≤ n → take m (replicate n a) ≡ replicate m a
+take-replicate zero n a h = refl
+take-replicate (suc m) zero a h = absurd (not-suc-le-zero h)
+take-replicate (suc m) (suc n) a h = ap (λ (r : List ℕ). a ∷ r) (take-replicate m n a (le-of-suc-le-suc h))
+
+-- the places that are marked
+marked-marks : (N : ℕ) (ps : List ℕ) → marked (marks N ps) ≡ keep (λ p. has p ps) (count 0 N)
+marked-marks N ps =
+    ap (λ (m : ℕ). keep (λ p. not (eqb (getD (marks N ps) p 0) 0)) (count 0 m)) (length-marks N ps)
+    ∙ keep-cong _ _ (count 0 N) (λ p h. ap (λ (x : ℕ). not (eqb x 0)) (marks-at N ps p (let r = ranged 0 N p h in omega arith)) ∙ bool (has p ps))
+  where
+    bool : (b : Bool) → not (eqb (cond b 1 0) 0) ≡ b
+    bool true = refl
+    bool false = refl
+
+-- for a window that admits what is not barred
+module _ (K E : ℕ) (s : Sized K E) (m : ℕ) (e : m ≡ exponent E) (w : Window)
+    (same : (p : ℕ) → admits m w p ≡ usable (rateMatching K E) (2 ^ m) E p) where
+  pub exponent-is : m ≡ n K E
+  exponent-is = e ∙ sym (n-by-length K E s)
+
+  admitted : keep (admits m w) reliability ≡ free (rateMatching K E) (N K E) E
+  unfolding free
+  admitted =
+      keep-cong (admits m w) (usable (rateMatching K E) (2 ^ m) E) reliability (λ p h. same p)
+      ∙ ap (λ (k : ℕ). keep (usable (rateMatching K E) (2 ^ k) E) reliability) exponent-is
+
+  pub wanted : K ≤ length (keep (admits m w) reliability)
+  wanted = subst (λ (r : List ℕ). K ≤ length r) (sym admitted) (enough K E s)
+
+  pub positions-are : marked (marks (2 ^ m) (last K (keep (admits m w) reliability))) ≡ layout K E .positions
+  unfolding layout chosen
+  positions-are =
+      marked-marks (2 ^ m) (last K (keep (admits m w) reliability))
+      ∙ ap (λ (r : List ℕ). keep (λ p. has p (last K r)) (count 0 (2 ^ m))) admitted
+      ∙ ap (λ (k : ℕ). keep (λ p. has p (last K (free (rateMatching K E) (N K E) E))) (count 0 (2 ^ k))) exponent-is
+
+  pub few : length (marked (marks (2 ^ m) (last K (keep (admits m w) reliability)))) ≤ 164
+  few = subst (λ (k : ℕ). k ≤ 164) (sym (ap length positions-are ∙ positions K E s .size)) (s .high)

@@ -1,0 +1,173 @@
+// N, the kind of rate matching and the information positions of a code (38.212 5.3.1, 5.4.1), worked out from A and E.
+mod table;
+
+use nr::RateMatching;
+ghost use mathlib.Core.Path.{_≡_};
+ghost use mathlib.Core.Bool.{true};
+ghost use Prim.Native.Nat.{ℕ, _+_, _-_, _≤_, _<_, _^_};
+ghost use lib.ListN.{length, replicate};
+ghost use Rattle.nr.specs.Rows.{has, keep, last};
+ghost use Rattle.nr.specs.Numbers.{K};
+ghost use Rattle.nr.specs.Answer.{lengths, refusal};
+ghost use Rattle.nr.specs.Reliability.{reliability};
+ghost use Rattle.nr.specs.Construction.{N, rateMatching, layout};
+ghost use Rattle.nr.specs.SuccessiveDecoder.{marks};
+ghost use Rattle.nr.proofs.Construction.{exponent};
+ghost use Rattle.nr.proofs.SubBlocks.{rank};
+ghost use Rattle.construction.specs.Window.{ranks, Applies, usable, admits, marked, padded, Lays};
+
+// N = 2^n, how E bits are made of the N code bits, and the K information positions, ascending, with 0 past K.
+pub struct Layout {
+    pub n: usize,
+    pub kind: RateMatching,
+    pub positions: [u16; 164],
+}
+
+// Which positions may carry information: those from `front` on whose rank in the sub-block order is at least `lo` and below `hi`.
+pub struct Window {
+    pub front: usize,
+    pub lo: usize,
+    pub hi: usize,
+}
+
+// n, for our lengths. The 9/8 rule, the limit 8K and the floor of 32 never change it (`n-by-length`).
+fn exponent(e: usize) -> usize
+    requires { ⌜ has e lengths ≡ true ⌝ }
+    ensures { λ r. ⌜ r ≡ exponent e ⌝ }
+{
+    if e == 108 {
+        return 7;
+    }
+    if e == 216 { 8 } else { 9 }
+}
+
+// Repetition if E is at least N; else puncturing if K/E is at most 7/16, in whole numbers, else shortening.
+fn rate_matching(k: usize, e: usize, len: usize) -> RateMatching
+    requires { ⌜ (k ≤ 164) × (e ≤ 1728) × (len ≡ N k e) ⌝ }
+    ensures { λ r. ⌜ r ≡ rateMatching k e ⌝ }
+{
+    if len <= e {
+        return RateMatching::Repetition;
+    }
+    if 16 * k <= 7 * e {
+        RateMatching::Puncturing
+    } else {
+        RateMatching::Shortening
+    }
+}
+
+// The window of a code of N = `len`. For our lengths the prefix is 3N/4 - E/2 (`kind-applies`).
+fn window_of(kind: RateMatching, len: usize, e: usize) -> Window
+    requires { ⌜ (len ≤ 512) × (e ≤ 1728) × Applies kind len e ⌝ }
+    ensures { λ r. ⌜ ((n : ℕ) → 5 ≤ n → len ≡ 2 ^ n → (p : ℕ) → admits n r p ≡ usable kind len e p) ⌝ }
+{
+    match kind {
+        RateMatching::Repetition => Window {
+            front: 0,
+            lo: 0,
+            hi: len,
+        },
+        RateMatching::Puncturing => Window {
+            front: (3 * len - 2 * e + 3) / 4,
+            lo: len - e,
+            hi: len,
+        },
+        RateMatching::Shortening => Window {
+            front: 0,
+            lo: 0,
+            hi: e,
+        },
+    }
+}
+
+// The i with J(i) = p, for N = 32 * 2^shift.
+fn rank(inverse: &[u8], shift: usize, p: usize) -> usize
+    requires { ⌜ (now inverse ≡ ranks) × (shift ≤ 4) × (p < 2 ^ (shift + 5)) ⌝ }
+    ensures { λ r. ⌜ r ≡ rank shift p ⌝ }
+{
+    let block = p >> shift;
+    ((inverse[block] as usize) << shift) + (p - (block << shift))
+}
+
+// Whether a position is below N and inside the window.
+fn is_admitted(inverse: &[u8], n: usize, w: Window, p: usize) -> bool
+    requires { ⌜ (now inverse ≡ ranks) × (5 ≤ n) × (n ≤ 9) ⌝ }
+    ensures { λ r. ⌜ r ≡ admits n w p ⌝ }
+{
+    if (1 << n) <= p {
+        return false;
+    }
+    if p < w.front {
+        return false;
+    }
+    let r = rank(inverse, n - 5, p);
+    if r < w.lo {
+        return false;
+    }
+    r < w.hi
+}
+
+// Marks the k most reliable of the positions that the window admits.
+fn choose(table: &[u16], inverse: &[u8], n: usize, w: Window, k: usize, row: &mut [u8])
+    requires { ⌜ (now table ≡ reliability) × (now inverse ≡ ranks) × (5 ≤ n) × (n ≤ 9) ⌝ }
+    requires { ⌜ (k ≤ length (keep (admits n w) reliability)) × (now row ≡ replicate (2 ^ n) 0) ⌝ }
+    ensures { λ _. ⌜ now (row .exit) ≡ marks (2 ^ n) (last k (keep (admits n w) reliability)) ⌝ }
+{
+    let mut left = k;
+    let mut i = 512;
+    while 0 < left {
+        i -= 1;
+        let p = table[i] as usize;
+        if is_admitted(inverse, n, w, p) {
+            row[p] = 1;
+            left -= 1;
+        }
+    }
+}
+
+// The marked positions, ascending.
+fn collect(row: &[u8], positions: &mut [u16])
+    requires { ⌜ (length (now row) ≤ 512) × (length (marked (now row)) ≤ 164) × (now positions ≡ replicate 164 0) ⌝ }
+    ensures { λ _. ⌜ now (positions .exit) ≡ padded (marked (now (row .entry))) ⌝ }
+{
+    let mut j = 0;
+    let mut p = 0;
+    while p < row.len() {
+        let here = p;
+        p += 1;
+        if row[here] != 0 {
+            positions[j] = here as u16;
+            j += 1;
+        }
+    }
+}
+
+// The k most reliable of the positions that the window admits, ascending, with 0 past k.
+fn select(n: usize, len: usize, w: Window, k: usize) -> [u16; 164]
+    requires { ⌜ (5 ≤ n) × (n ≤ 9) × (len ≡ 2 ^ n) ⌝ }
+    requires { ⌜ (k ≤ length (keep (admits n w) reliability)) × (length (marked (marks (2 ^ n) (last k (keep (admits n w) reliability)))) ≤ 164) ⌝ }
+    ensures { λ r. ⌜ r ≡ padded (marked (marks (2 ^ n) (last k (keep (admits n w) reliability)))) ⌝ }
+{
+    let table = table::RELIABILITY;
+    let inverse = table::RANKS;
+    let mut row = [0u8; 512];
+    choose(&table, &inverse, n, w, k, &mut row[..len]);
+    let mut positions = [0u16; 164];
+    collect(&row[..len], &mut positions);
+    positions
+}
+
+// The code for A and E.
+pub fn construct(a: u64, e: u64) -> Layout
+    requires { ⌜ refusal a e ≡ 0 ⌝ }
+    ensures { λ r. ⌜ Lays (layout (K a) e) r ⌝ }
+{
+    let k = (a as usize) + 24;
+    let e = e as usize;
+    let n = exponent(e);
+    let len = 1 << n;
+    let kind = rate_matching(k, e, len);
+    let w = window_of(kind, len, e);
+    let positions = select(n, len, w, k);
+    Layout { n, kind, positions }
+}
