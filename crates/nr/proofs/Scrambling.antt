@@ -167,6 +167,7 @@ x2-recurs s i h =
 
 -- ---- many terms on at once, made of the terms that the register holds
 
+-- the new terms are sums of a term and the one 3 on
 pub ahead1 : (s m n : ℕ) → m + n ≡ 31 → m ≤ 28 → after step1 m s ≡ s / 2 ^ m + bitXor s (s / 2 ^ 3) % 2 ^ m * 2 ^ n
 unfolding next1 step1
 ahead1 s m n e h =
@@ -174,7 +175,7 @@ ahead1 s m n e h =
     bit-xor i s (s / 2 ^ 3) ∙ ap₂ xor (sym (x1-starts s i (omega arith))) (sees next1 next1-bit 3 i s (omega arith))
     ∙ ap (λ (y : ℕ). y % 2) (add-comm _ _))
 
--- t has the sums of two terms next to each other
+-- t has the sums of two terms next to each other, and the new terms are sums of such a sum and the one 2 on
 pub ahead2 : (s m n : ℕ) → m + n ≡ 31 → m ≤ 28
     → let t = bitXor s (s / 2 ^ 1) in after step2 m s ≡ s / 2 ^ m + bitXor t (t / 2 ^ 2) % 2 ^ m * 2 ^ n
 unfolding next2 step2
@@ -204,6 +205,7 @@ unfolding after
 after-after step zero k s = let e : k ≡ 0 + k = omega arith in ap (λ (i : ℕ). after step i s) e
 after-after step (suc m) k s = after-after step m k (step s) ∙ ap (λ (i : ℕ). after step i s) (sym (suc-add m k))
 
+-- the first m terms, and those of the registers m terms on
 pub terms-append : (m k s1 s2 : ℕ) → terms (m + k) s1 s2 ≡ terms m s1 s2 ++ terms k (after step1 m s1) (after step2 m s2)
 unfolding terms after
 terms-append zero k s1 s2 = ap (λ (n : ℕ). terms n s1 s2) (zero-add k)

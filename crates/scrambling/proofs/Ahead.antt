@@ -16,6 +16,7 @@ module _ (s w : ℕ) where
       ap (λ (y : ℕ). s / 2 ^ 16 + y)
       (ap (λ (y : ℕ). (y * 2 ^ 15) % 2 ^ 32) (and-mask w 16) ∙ shl-exact {a = w % 2 ^ 16} 16 15 32 (mod-lt w (pow-pos 16)) (omega arith))
 
+  -- the sum fits
   pub joined-lt : s < 2 ^ 32 → s / 2 ^ 16 + (bitAnd w 0xffff * 2 ^ 15) % 2 ^ 32 < 2 ^ 32
   joined-lt h = rw joined (omega arith)
 

@@ -5,6 +5,7 @@ ghost use lib.ListN.{length};
 ghost use Rattle.nr.specs.Rows.{xors};
 ghost use Rattle.nr.specs.Scrambling.{step1, step2, after, terms, gold};
 ghost use Rattle.nr.proofs.Zip.{Bits};
+ghost use Rattle.scrambling.specs.Nibbles.{digits};
 
 // The two 31-bit registers of the sequence: a register's lowest bit is the first to go out.
 pub struct Registers {
@@ -43,23 +44,29 @@ pub fn start(r: Registers) -> Registers
     Registers { x1, x2 }
 }
 
-// The terms that the registers hold, lowest first, added to a row that is no longer than they are.
-fn add_terms(row: &mut [u8], x1: u32, x2: u32)
+// The terms that the registers hold, lowest first, added to a row that is no longer than they are. `nibbles` has the four bits
+// of 0 .. 15, lowest first, as digits: one read of it serves four entries. It is handed in since a call would write it anew.
+fn add_terms(row: &mut [u8], nibbles: &[u8; 64], x1: u32, x2: u32)
     requires { ⌜ length (now row) ≤ 31 ⌝ }
     requires { ⌜ Bits (now row) ⌝ }
+    requires { ⌜ now nibbles ≡ digits ⌝ }
     ensures { λ _. ⌜ now (row .exit) ≡ xors (now (row .entry)) (terms (length (now (row .entry))) x1 x2) ⌝ }
 {
     let word = x1 ^ x2;
     let mut i = 0;
     while i < row.len() {
-        row[i] = row[i] ^ (((word >> i) & 1) as u8);
+        let j = i & 3;
+        let k = i - j;
+        let nibble = ((word >> k) & 15) as usize;
+        row[i] = row[i] ^ (nibbles[nibble * 4 + j] & 1);
         i += 1;
     }
 }
 
 // The sequence that the registers go on with, added to a row of any length: by whole blocks of 16, then the rest.
-fn add_sequence(r: Registers, row: &mut [u8])
+fn add_sequence(r: Registers, nibbles: &[u8; 64], row: &mut [u8])
     requires { ⌜ Bits (now row) ⌝ }
+    requires { ⌜ now nibbles ≡ digits ⌝ }
     ensures { λ _. ⌜ now (row .exit) ≡ xors (now (row .entry)) (terms (length (now (row .entry))) (r .x1) (r .x2)) ⌝ }
 {
     let mut x1 = r.x1;
@@ -67,12 +74,12 @@ fn add_sequence(r: Registers, row: &mut [u8])
     let mut at = 0;
     while 16 <= row.len() - at {
         let end = at + 16;
-        add_terms(&mut row[at..end], x1, x2);
+        add_terms(&mut row[at..end], nibbles, x1, x2);
         x1 = ahead1(x1);
         x2 = ahead2(x2);
         at = end;
     }
-    add_terms(&mut row[at..], x1, x2);
+    add_terms(&mut row[at..], nibbles, x1, x2);
 }
 
 // The Gold sequence that x2 starts with the bits of `seed`, added to the row.
@@ -82,5 +89,9 @@ pub fn scramble(seed: u32, row: &mut [u8])
     ensures { λ _. ⌜ now (row .exit) ≡ xors (now (row .entry)) (gold seed (length (now (row .entry)))) ⌝ }
 {
     let r = start(Registers { x1: 1, x2: seed });
-    add_sequence(r, row);
+    add_sequence(
+        r,
+        b"0000100001001100001010100110111000011001010111010011101101111111",
+        row,
+    );
 }

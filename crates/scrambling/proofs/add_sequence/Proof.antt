@@ -13,12 +13,12 @@ use Rattle.scrambling.proofs.add_sequence.Statement.{statement}
 use Rattle.scrambling.proofs.add_sequence.Tie as tie
 
 abbrev Inv-loop : tie.InvT-loop
-Inv-loop row₀ x1₀ x2₀ at₀ row x1 x2 at =
+Inv-loop nibbles row₀ x1₀ x2₀ at₀ row x1 x2 at =
     (at ≤ length row₀) × (length row ≡ length row₀) × (row ≡ added row₀ x1₀ x2₀ at)
     × (x1 ≡ after step1 at x1₀) × (x2 ≡ after step2 at x2₀)
 
 abbrev μ-loop : tie.MeasureT-loop
-μ-loop row₀ x1₀ x2₀ at₀ row x1 x2 at = length row₀ - at
+μ-loop nibbles row₀ x1₀ x2₀ at₀ row x1 x2 at = length row₀ - at
 
 loop-holds : tie.Need-loop-holds Inv-loop μ-loop
 unfolding after
@@ -59,8 +59,9 @@ add-terms-requires : tie.Need-add-terms-requires Inv-loop μ-loop
 add-terms-requires c κs =
     let t = c .before .before .loop in
     let s = c .before .before .before .before in
-    part-asks (s .args .row .now) (s .args .r .x1) (s .args .r .x2) (t .at) (t .at + 16 - t .at) (t .at + 16) (t .row)
-    (omega arith) (omega arith) (t .inv .2) (omega arith) (s .pre)
+    let part = part-asks (s .args .row .now) (s .args .r .x1) (s .args .r .x2) (t .at) (t .at + 16 - t .at) (t .at + 16) (t .row)
+    (omega arith) (omega arith) (t .inv .2) (omega arith) (s .pre .0) in
+    (part .0, (part .1, s .pre .1))
 
 ahead1-requires : tie.Need-ahead1-requires Inv-loop μ-loop
 ahead1-requires c κs = tt
@@ -84,8 +85,9 @@ add-terms-requires-2 : tie.Need-add-terms-requires-2 Inv-loop μ-loop
 add-terms-requires-2 c κs =
     let t = c .before .before .loop in
     let s = c .before .before .before .before in
-    part-asks (s .args .row .now) (s .args .r .x1) (s .args .r .x2) (t .at) (length (t .row) - t .at) (length (t .row)) (t .row)
-    (omega arith) (omega arith) (t .inv .2) (omega arith) (s .pre)
+    let part = part-asks (s .args .row .now) (s .args .r .x1) (s .args .r .x2) (t .at) (length (t .row) - t .at) (length (t .row)) (t .row)
+    (omega arith) (omega arith) (t .inv .2) (omega arith) (s .pre .0) in
+    (part .0, (part .1, s .pre .1))
 
 same-length : tie.Need-same-length Inv-loop μ-loop
 same-length c =

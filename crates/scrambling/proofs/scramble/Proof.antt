@@ -18,7 +18,7 @@ returns : tie.Need-returns
 unfolding gold
 returns c =
     let d = c .before .before in
-    let e = d .before .before .start .ensures in
+    let e = d .before .before .before .start .ensures in
     rw (e .0, e .1) at (d .add-sequence .ensures)
 
 pub scramble-spec : {M : Type 1} → statement M
