@@ -1,14 +1,18 @@
 -- The Gold sequence: E bits, which the registers make by the recurrences of 38.211 5.2.1.
 -- Assumes nothing.
 use Prim.Native.Nat.{ℕ, zero, suc, _+_, _-_, _*_, _/_, _%_, _^_, _≤_, _<_}
-use native.Mathlib.Nat.{not-suc-le-zero, le-of-suc-le-suc, div-eq-of-lt, add-mul-div-right, mul-assoc, mul-comm, pow-succ', suc-add}
+use native.Mathlib.Nat.{not-suc-le-zero, le-of-suc-le-suc, div-eq-of-lt, add-mul-div-right, add-comm, add-mul, zero-mul, mul-assoc, mul-comm, pow-suc, pow-succ', suc-add, zero-add}
+use native.Mathlib.Numerals.{add-one, one-add}
 use native.Mathlib.Omega.{arith}
 use mathlib.Core.Path.{_≡_, refl, sym, ap, ap₂, _∙_}
+use mathlib.Core.List.{_++_}
+use lib.Bits.{bitXor, xor-shr}
 use lib.ListN.{length, getD}
-use lib.Pow.{pow-pos, pow-add, shr-shr}
-use Rattle.nr.specs.Rows.{bit}
+use lib.Pow.{pow-pos, pow-add, shr-shr, mod-pow-add}
+use Rattle.nr.specs.Rows.{bit, xor}
 use Rattle.nr.specs.Scrambling.{next1, next2, shift, step1, step2, after, terms, gold}
-use Rattle.nr.proofs.Zip.{Bits}
+use Rattle.nr.proofs.Words.{bit-xor, bit-shr}
+use Rattle.nr.proofs.Zip.{Bits, cons}
 
 -- ---- E bits
 
@@ -93,6 +97,31 @@ module _ (feed : ℕ → ℕ) (feed-bit : (s : ℕ) → feed s ≤ 1) where
       sym (window 30 (suc i) s (omega arith) ∙ ap (x s) e) ∙ ap (bit 30) (sym (after-suc i s))
       ∙ shift-top (feed (after step i s)) (after step i s) (feed-bit (after step i s)) (after-lt i s h)
 
+  -- the terms that the register holds, shifted down, are those of the registers that follow
+  sees : (j i s : ℕ) → i + j ≤ 30 → bit i (s / 2 ^ j) ≡ bit j (after step i s)
+  sees j i s h = bit-shr i j s ∙ ap (λ (k : ℕ). bit k s) (add-comm j i) ∙ sym (window j i s (omega arith) ∙ first-terms s (i + j) h)
+
+  -- m terms on at once: w has the m terms that come in as its lowest bits
+  ahead : (w s m n : ℕ) → m + n ≡ 31 → ((i : ℕ) → i < m → bit i w ≡ feed (after step i s)) → after step m s ≡ s / 2 ^ m + w % 2 ^ m * 2 ^ n
+  unfolding after
+  ahead w s zero n e h =
+      let none : w % 1 ≡ 0 = omega arith in
+      rw (none, zero-mul) (omega arith)
+  ahead w s (suc m) n e h =
+      let low : ℕ = w % 2 ^ m in
+      let before : after step m s ≡ s / 2 ^ m + low * 2 ^ n * 2 =
+      ahead w s m (suc n) (omega arith) (λ i l. h i (omega arith))
+      ∙ ap (λ (y : ℕ). s / 2 ^ m + y) (ap (λ (y : ℕ). low * y) (pow-suc 2 n) ∙ sym (mul-assoc low (2 ^ n) 2)) in
+      let out : s / 2 ^ m / 2 ≡ s / 2 ^ suc m = shr-shr s m 1 ∙ ap (λ (k : ℕ). s / 2 ^ k) (add-one m) in
+      let size : 30 ≡ m + n = omega arith in
+      let top : feed (after step m s) * 2 ^ 30 ≡ bit m w * 2 ^ m * 2 ^ n =
+      ap₂ (λ (y z : ℕ). y * z) (sym (h m (omega arith))) (ap (λ (k : ℕ). 2 ^ k) size ∙ pow-add 2 m n)
+      ∙ sym (mul-assoc (bit m w) (2 ^ m) (2 ^ n)) in
+      let whole : w % 2 ^ suc m * 2 ^ n ≡ bit m w * 2 ^ m * 2 ^ n + low * 2 ^ n =
+      ap (λ (y : ℕ). y * 2 ^ n) (ap (λ (k : ℕ). w % 2 ^ k) (sym (one-add m)) ∙ mod-pow-add w 1 m)
+      ∙ add-mul (bit m w * 2 ^ m) low (2 ^ n) in
+      sym (after-suc m s) ∙ omega arith
+
 -- ---- the two sequences of 38.211 5.2.1
 
 -- the terms of the sequence that starts with the bits of s, lowest first
@@ -136,12 +165,51 @@ x2-recurs s i h =
     ap₃ : (f : ℕ → ℕ → ℕ → ℕ) {a a′ b b′ c c′ : ℕ} → a ≡ a′ → b ≡ b′ → c ≡ c′ → f a b c ≡ f a′ b′ c′
     ap₃ f p q r = ap₂ (λ (g : ℕ → ℕ) (c : ℕ). g c) (ap₂ f p q) r
 
+-- ---- many terms on at once, made of the terms that the register holds
+
+-- the new terms are sums of a term and the one 3 on
+pub ahead1 : (s m n : ℕ) → m + n ≡ 31 → m ≤ 28 → after step1 m s ≡ s / 2 ^ m + bitXor s (s / 2 ^ 3) % 2 ^ m * 2 ^ n
+unfolding next1 step1
+ahead1 s m n e h =
+    ahead next1 next1-bit (bitXor s (s / 2 ^ 3)) s m n e (λ i l.
+    bit-xor i s (s / 2 ^ 3) ∙ ap₂ xor (sym (x1-starts s i (omega arith))) (sees next1 next1-bit 3 i s (omega arith))
+    ∙ ap (λ (y : ℕ). y % 2) (add-comm _ _))
+
+-- t has the sums of two terms next to each other, and the new terms are sums of such a sum and the one 2 on
+pub ahead2 : (s m n : ℕ) → m + n ≡ 31 → m ≤ 28
+    → let t = bitXor s (s / 2 ^ 1) in after step2 m s ≡ s / 2 ^ m + bitXor t (t / 2 ^ 2) % 2 ^ m * 2 ^ n
+unfolding next2 step2
+ahead2 s m n e h = ahead next2 next2-bit (bitXor t (t / 2 ^ 2)) s m n e four
+  where
+    t : ℕ
+    t = bitXor s (s / 2 ^ 1)
+
+    sum : (a b c d : ℕ) → xor (xor a b) (xor c d) ≡ (d + c + b + a) % 2
+    sum a b c d = omega arith
+
+    term : (j i : ℕ) → i + j ≤ 30 → bit i (s / 2 ^ j) ≡ bit j (after step2 i s)
+    term j i l = sees next2 next2-bit j i s l
+
+    four : (i : ℕ) → i < m → bit i (bitXor t (t / 2 ^ 2)) ≡ next2 (after step2 i s)
+    four i l =
+        let here = bit-xor i s (s / 2 ^ 1) ∙ ap₂ xor (sym (x2-starts s i (omega arith))) (term 1 i (omega arith)) in
+        let on : bit i (t / 2 ^ 2) ≡ xor (bit 2 (after step2 i s)) (bit 3 (after step2 i s)) =
+        ap (bit i) (xor-shr s (s / 2 ^ 1) 2) ∙ bit-xor i (s / 2 ^ 2) (s / 2 ^ 1 / 2 ^ 2)
+        ∙ ap₂ xor (term 2 i (omega arith)) (ap (bit i) (shr-shr s 1 2) ∙ term 3 i (omega arith)) in
+        bit-xor i t (t / 2 ^ 2) ∙ ap₂ xor here on ∙ sum _ _ _ _
+
 -- ---- c(k) = x1(k + 1600) + x2(k + 1600)
 
 pub after-after : (step : ℕ → ℕ) (m k s : ℕ) → after step k (after step m s) ≡ after step (m + k) s
 unfolding after
 after-after step zero k s = let e : k ≡ 0 + k = omega arith in ap (λ (i : ℕ). after step i s) e
 after-after step (suc m) k s = after-after step m k (step s) ∙ ap (λ (i : ℕ). after step i s) (sym (suc-add m k))
+
+-- the first m terms, and those of the registers m terms on
+pub terms-append : (m k s1 s2 : ℕ) → terms (m + k) s1 s2 ≡ terms m s1 s2 ++ terms k (after step1 m s1) (after step2 m s2)
+unfolding terms after
+terms-append zero k s1 s2 = ap (λ (n : ℕ). terms n s1 s2) (zero-add k)
+terms-append (suc m) k s1 s2 = ap (λ (n : ℕ). terms n s1 s2) (suc-add m k) ∙ cons refl (terms-append m k (step1 s1) (step2 s2))
 
 pub terms-at : (E s1 s2 k : ℕ) → k < E → getD (terms E s1 s2) k 0 ≡ (x1 s1 k + x2 s2 k) % 2
 unfolding terms after

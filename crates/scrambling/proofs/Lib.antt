@@ -1,0 +1,4 @@
+-- Laws that the functions' proofs cite.
+pub mod Ahead
+pub mod Nibbles
+pub mod Added
