@@ -18,7 +18,7 @@ use Rattle.nr.specs.Transform.{transform}
 use Rattle.nr.specs.RateMatching.{subBlocks, selected, select}
 use Rattle.nr.specs.SuccessiveDecoder.{negateIf, plus, certain, gather, codeRow}
 use Rattle.nr.proofs.Tests.{holds, is, clash}
-use Rattle.nr.proofs.Rows.{length-table, getD-table, length-entries, getD-entries}
+use Rattle.nr.proofs.Rows.{getD-table, length-picked, getD-picked}
 use Rattle.nr.proofs.Zip.{Bits, bits-entries}
 use Rattle.nr.proofs.Transform.{Each, transform-zero}
 use Rattle.nr.proofs.SuccessiveDecoder.{Sign, Soft, Clean}
@@ -27,10 +27,20 @@ use Rattle.nr.proofs.SubBlocks.{rank, rank-lt, J-rank, place-J, found, 
 
 -- ---- the sent bits
 
+-- the code word in sub-block order
+module _ (N : ℕ) (d : List ℕ) where
+  pub length-subBlocks : length (subBlocks N d) ≡ N
+  unfolding subBlocks
+  length-subBlocks = length-picked (J N) N d
+
+  pub getD-subBlocks : (i : ℕ) → i < N → getD (subBlocks N d) i 0 ≡ getD d (J N i) 0
+  unfolding subBlocks
+  getD-subBlocks = getD-picked (J N) N d
+
 module _ (kind : RateMatching) (N E : ℕ) (d : List ℕ) where
   pub length-select : length (select kind N E d) ≡ E
   unfolding select
-  length-select = length-entries (map (selected kind N E) (count 0 E)) (subBlocks N d) ∙ length-table (selected kind N E) 0 E
+  length-select = length-picked (selected kind N E) E (subBlocks N d)
 
   pub bits-select : Bits d → Bits (select kind N E d)
   unfolding select subBlocks
@@ -44,13 +54,10 @@ module _ (k E : ℕ) (d : List ℕ) where
   -- sent bit j is the code bit at its place
   select-at : (kind : RateMatching) (j : ℕ) → j < E → selected kind (2 ^ (k + 5)) E j < 2 ^ (k + 5)
       → getD (select kind (2 ^ (k + 5)) E d) j 0 ≡ bitAt (selected kind (2 ^ (k + 5)) E j)
-  unfolding select subBlocks
+  unfolding select
   select-at kind j h l =
       let N : ℕ = 2 ^ (k + 5) in
-      getD-entries (map (selected kind N E) (count 0 E)) (subBlocks N d) j (subst (λ (m : ℕ). j < m) (sym (length-table (selected kind N E) 0 E)) h)
-      ∙ ap (λ (i : ℕ). getD (subBlocks N d) i 0) (getD-table (selected kind N E) E j 0 h)
-      ∙ getD-entries (map (J N) (count 0 N)) d (selected kind N E j) (subst (λ (m : ℕ). selected kind N E j < m) (sym (length-table (J N) 0 N)) l)
-      ∙ ap (λ (i : ℕ). getD d i 0) (getD-table (J N) N (selected kind N E j) 0 l)
+      getD-picked (selected kind N E) E (subBlocks N d) j h ∙ getD-subBlocks N d (selected kind N E j) l
 
 -- ---- the decoder's row
 

@@ -52,6 +52,16 @@ length-entries places row = length-map places (λ i. getD row i 0)
 pub getD-entries : (places row : List ℕ) (k : ℕ) → k < length places → getD (entries places row) k 0 ≡ getD row (getD places k 0) 0
 getD-entries places row k h = getD-map (λ i. getD row i 0) places k 0 0 h
 
+-- entries whose places are a function of their own
+module _ (f : ℕ → ℕ) (k : ℕ) (row : List ℕ) where
+  pub length-picked : length (entries (map f (count 0 k)) row) ≡ k
+  length-picked = length-entries (map f (count 0 k)) row ∙ length-table f 0 k
+
+  pub getD-picked : (i : ℕ) → i < k → getD (entries (map f (count 0 k)) row) i 0 ≡ getD row (f i) 0
+  getD-picked i h =
+      getD-entries (map f (count 0 k)) row i (subst (λ (m : ℕ). i < m) (sym (length-table f 0 k)) h)
+      ∙ ap (λ (j : ℕ). getD row j 0) (getD-table f k i 0 h)
+
 -- ---- what passes
 
 module _ (f : ℕ → Bool) where

@@ -59,13 +59,15 @@ module _ (k : ℕ) where
   size : 2 ^ (k + 5) ≡ 2 ^ k * 32
   size = pow-add 2 k 5
 
-  J-at : (i : ℕ) → J (2 ^ (k + 5)) i ≡ getD P (i / 2 ^ k) 0 * 2 ^ k + i % 2 ^ k
+  -- J by the sub-block and the place in it
+  pub J-at : (i : ℕ) → J (2 ^ (k + 5)) i ≡ getD P (i / 2 ^ k) 0 * 2 ^ k + i % 2 ^ k
   unfolding J
   J-at i =
       let u : 32 * i / 2 ^ (k + 5) ≡ i / 2 ^ k = ap (λ x. 32 * i / x) (size ∙ mul-comm (2 ^ k) 32) ∙ mul-div-mul-left i (2 ^ k) (omega arith) in
       let v : 2 ^ (k + 5) / 32 ≡ 2 ^ k = ap (λ x. x / 32) size ∙ mul-div-cancel (2 ^ k) (omega arith) in
       ap₂ (λ x y. getD P x 0 * y + i % y) u v
 
+  -- there are 32 sub-blocks
   pub inside : (i : ℕ) → i < 2 ^ (k + 5) → i / 2 ^ k < 32
   inside i h = div-lt-iff-lt-mul (pow-pos k) .1 (subst (λ x. i < x) (size ∙ mul-comm (2 ^ k) 32) h)
 

@@ -1,0 +1,105 @@
+-- `rate_matching::bit_selection` meets its contract.
+-- Assumes nothing.
+use Prim.Native.Nat.{_≤_}
+use native.Mathlib.Omega.{arith}
+use mathlib.Core.Path.{sym, _∙_}
+use lib.ListN.{length}
+use lib.Seq.{length-take-le}
+use borrow.Rule.Slice.PartMut.{mid-len}
+use Rattle.rate_matching.proofs.Sending.{sent-repetition, sent-puncturing, sent-shortening, sendable}
+use borrow.Author.Needs.{needs}
+use Rattle.rate_matching.proofs.bit_selection.Statement.{statement}
+use Rattle.rate_matching.proofs.bit_selection.Tie as tie
+
+enum-told : tie.Need-enum-told
+enum-told c = search needs
+
+repeat-requires : tie.Need-repeat-requires
+repeat-requires c κs = search needs
+
+enum-told-2 : tie.Need-enum-told-2
+enum-told-2 c = search needs
+
+sub-unsent : tie.Need-sub-unsent
+sub-unsent c = sendable (c .before .before .before .before .args .y .now) _ (c .enum-told2 .given .1) (c .before .before .before .before .pre .1)
+
+sub-copy : tie.Need-sub-copy
+sub-copy c = search needs
+
+part-copy-start : tie.Need-part-copy-start
+part-copy-start c = search needs
+
+part-copy-end : tie.Need-part-copy-end
+part-copy-end c = search needs
+
+copy-requires : tie.Need-copy-requires
+copy-requires c κs =
+    let s = c .before .before .before .before .before .before in
+    let y = s .args .y .now in
+    let l : length (s .args .out .now) ≤ length y = sendable y _ (c .before .before .enum-told2 .given .1) (s .pre .1) in
+    sym (mid-len _ (length y) y (omega arith) ∙ omega arith)
+
+enum-told-3 : tie.Need-enum-told-3
+enum-told-3 c = search needs
+
+slice-aggregate-copy : tie.Need-slice-aggregate-copy
+slice-aggregate-copy c =
+    let s = c .before .before .before .before .before in
+    let y = s .args .y .now in
+    sym (length-take-le _ y (sendable y _ (c .before .enum-told3 .given .1) (s .pre .1)))
+
+copy-requires-2 : tie.Need-copy-requires-2
+copy-requires-2 c κs =
+    let s = c .before .before .before .before .before .before in
+    let y = s .args .y .now in
+    sym (length-take-le _ y (sendable y _ (c .before .before .enum-told3 .given .1) (s .pre .1)))
+
+same-length : tie.Need-same-length
+same-length c = search needs
+
+returns : tie.Need-returns
+returns c =
+    let s = c .before .before .before .before .before .before .before .before in
+    c .before .before .repeat .ensures ∙ sym (sent-repetition (s .args .y .now) (length (s .args .out .now)) (c .before .before .before .before .enum-told .given .1))
+
+same-length-2 : tie.Need-same-length-2
+same-length-2 c = search needs
+
+returns-2 : tie.Need-returns-2
+returns-2 c =
+    let s = c .before .before .before .before .before .before .before .before .before in
+    let y = s .args .y .now in
+    let told = c .before .before .before .before .before .enum-told2 .given .1 in
+    c .before .before .copy .ensures ∙ sym (sent-puncturing y _ told (sendable y _ told (s .pre .1)))
+
+same-length-3 : tie.Need-same-length-3
+same-length-3 c = search needs
+
+returns-3 : tie.Need-returns-3
+returns-3 c =
+    let s = c .before .before .before .before .before .before .before .before .before in
+    let y = s .args .y .now in
+    let told = c .before .before .before .before .before .enum-told3 .given .1 in
+    c .before .before .copy2 .ensures ∙ sym (sent-shortening y _ told (sendable y _ told (s .pre .1)))
+
+pub bit-selection-spec : {M : Type 1} → statement M
+bit-selection-spec =
+    tie.close
+    (tie.spec
+    enum-told
+    repeat-requires
+    enum-told-2
+    sub-unsent
+    sub-copy
+    part-copy-start
+    part-copy-end
+    copy-requires
+    enum-told-3
+    slice-aggregate-copy
+    copy-requires-2
+    same-length
+    returns
+    same-length-2
+    returns-2
+    same-length-3
+    returns-3)

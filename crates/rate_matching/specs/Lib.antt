@@ -1,0 +1,2 @@
+-- What the selection asks of its lengths.
+pub mod Sendable
