@@ -1,6 +1,6 @@
 -- The loop that collects the marked positions, ascending, into a row of 164 that holds 0 past them.
 -- Assumes nothing.
-use Prim.Native.Nat.{ℕ, zero, suc, _+_, _-_, _≤_, _<_}
+use Prim.Native.Nat.{ℕ, _+_, _-_, _≤_, _<_}
 use native.Mathlib.Omega.{arith}
 use mathlib.Core.Path.{_≡_, refl, sym, ap, _∙_}
 use mathlib.Core.Bool.{Bool, true, not}
@@ -12,12 +12,8 @@ use borrow.Author.Tests.{eq-eqb, ne-eqb}
 use Rattle.nr.specs.Rows.{count}
 use Rattle.nr.proofs.Rows.{length-count, getD-count}
 use Rattle.nr.proofs.Sifting.{passed, passed-all, passed-hit, passed-miss, passed-entry, passed-lt}
+use Rattle.rows.proofs.Parts.{drop-replicate}
 use Rattle.construction.specs.Window.{marked, padded}
-
-drop-replicate : (j n a : ℕ) → drop j (replicate n a) ≡ replicate (n - j) a
-drop-replicate zero n a = let e : n ≡ n - 0 = omega arith in ap (λ (m : ℕ). replicate m a) e
-drop-replicate (suc j) zero a = let e : 0 ≡ 0 - suc j = omega arith in ap (λ (m : ℕ). replicate m a) e
-drop-replicate (suc j) (suc n) a = let e : n - j ≡ suc n - suc j = omega arith in drop-replicate j n a ∙ ap (λ (m : ℕ). replicate m a) e
 
 module _ (row : List ℕ) where
   -- the test, and how many pass before place p

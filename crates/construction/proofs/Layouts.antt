@@ -1,13 +1,12 @@
 -- What the marked positions come to: document 01's information positions.
 -- Assumes nothing.
-use Prim.Native.Nat.{ℕ, zero, suc, _-_, _^_, _≤_}
-use native.Mathlib.Nat.{not-suc-le-zero, le-of-suc-le-suc}
+use Prim.Native.Nat.{ℕ, _-_, _^_, _≤_}
 use native.Mathlib.Omega.{arith}
 use mathlib.Core.Path.{_≡_, refl, sym, subst, ap, _∙_}
 use mathlib.Core.Bool.{Bool, true, false, not, cond}
-use mathlib.Core.List.{List, _∷_}
+use mathlib.Core.List.{List}
 use lib.Dec.{eqb}
-use lib.ListN.{length, getD, take, replicate}
+use lib.ListN.{length, getD}
 use Rattle.nr.specs.Rows.{count, has, keep, last}
 use Rattle.nr.specs.Reliability.{reliability}
 use Rattle.nr.specs.SuccessiveDecoder.{marks}
@@ -17,11 +16,6 @@ use Rattle.nr.proofs.Construction.{Sized, exponent, n-by-length, enough, positi
 use Rattle.construction.specs.declared.Window.{Window}
 use Rattle.construction.specs.Window.{usable, admits, marked}
 use Rattle.construction.proofs.Choice.{length-marks, marks-at}
-
-pub take-replicate : (m n a : ℕ) → m ≤ n → take m (replicate n a) ≡ replicate m a
-take-replicate zero n a h = refl
-take-replicate (suc m) zero a h = absurd (not-suc-le-zero h)
-take-replicate (suc m) (suc n) a h = ap (λ (r : List ℕ). a ∷ r) (take-replicate m n a (le-of-suc-le-suc h))
 
 -- the places that are marked
 marked-marks : (N : ℕ) (ps : List ℕ) → marked (marks N ps) ≡ keep (λ p. has p ps) (count 0 N)

@@ -3,12 +3,14 @@
 use Prim.Native.Nat.{ℕ, zero, suc, _+_, _≤_, _<_}
 use native.Mathlib.Nat.{not-suc-le-zero, le-of-suc-le-suc}
 use native.Mathlib.Omega.{arith}
-use mathlib.Core.Path.{_≡_, refl, ap}
+use native.Mathlib.Numerals.{add-one}
+use mathlib.Core.Path.{_≡_, refl, sym, ap, _∙_}
 use mathlib.Core.Logic.{_⊎_, inl, inr, _↔_}
 use mathlib.Core.Bool.{Bool, true, false, cond, not}
 use mathlib.Core.List.{List, [], _∷_}
 use lib.Dec.{T, eqb, ltb}
-use lib.ListN.{length, getD}
+use lib.ListN.{length, getD, drop}
+use lib.Seq.{drop-cons}
 use borrow.Author.Tests.{le-ltb, ltb-true, ltb-false, eq-eqb, eqb-true}
 use Rattle.nr.specs.Rows.{has, first}
 use Rattle.nr.specs.Numbers.{K}
@@ -25,14 +27,14 @@ pub record Pair (A E : ℕ) : Type 0 where
   pub length : (E ≡ 108) ⊎ ((E ≡ 216) ⊎ ((E ≡ 432) ⊎ ((E ≡ 864) ⊎ (E ≡ 1728))))
   pub room : A + 24 ≤ E
 
-listed : (E : ℕ) → (E ≡ 108) ⊎ ((E ≡ 216) ⊎ ((E ≡ 432) ⊎ ((E ≡ 864) ⊎ (E ≡ 1728)))) → has E lengths ≡ true
+pub listed : (E : ℕ) → (E ≡ 108) ⊎ ((E ≡ 216) ⊎ ((E ≡ 432) ⊎ ((E ≡ 864) ⊎ (E ≡ 1728)))) → has E lengths ≡ true
 listed E (inl e) = ap (λ (x : ℕ). has x lengths) e
 listed E (inr (inl e)) = ap (λ (x : ℕ). has x lengths) e
 listed E (inr (inr (inl e))) = ap (λ (x : ℕ). has x lengths) e
 listed E (inr (inr (inr (inl e)))) = ap (λ (x : ℕ). has x lengths) e
 listed E (inr (inr (inr (inr e)))) = ap (λ (x : ℕ). has x lengths) e
 
-which : (E : ℕ) → T (has E lengths) → (E ≡ 108) ⊎ ((E ≡ 216) ⊎ ((E ≡ 432) ⊎ ((E ≡ 864) ⊎ (E ≡ 1728))))
+pub which : (E : ℕ) → T (has E lengths) → (E ≡ 108) ⊎ ((E ≡ 216) ⊎ ((E ≡ 432) ⊎ ((E ≡ 864) ⊎ (E ≡ 1728))))
 which E t = elim (cases E 108 (216 ∷ 432 ∷ 864 ∷ 1728 ∷ []) t) [
   | inl e ↦ inl e
   | inr t ↦ inr (elim (cases E 216 (432 ∷ 864 ∷ 1728 ∷ []) t) [
@@ -63,6 +65,15 @@ module _ {X : Type 0} (bad : X → Bool) where
   pub first-none : (xs : List X) (d : X) → ((k : ℕ) → k < length xs → bad (getD xs k d) ≡ false) → first bad xs ≡ length xs
   first-none [] d h = refl
   first-none (x ∷ xs) d h = rw (h 0 (omega arith)) (ap suc (first-none xs d (λ k l. h (suc k) (omega arith))))
+
+  -- looked for from place i on
+  pub first-hit : (xs : List X) (d : X) (i : ℕ) → i < length xs → bad (getD xs i d) ≡ true → first bad (drop i xs) ≡ 0
+  first-hit xs d i l e = ap (first bad) (drop-cons xs i d l) ∙ ap (λ (b : Bool). cond b 0 (suc (first bad (drop (suc i) xs)))) e
+
+  pub first-miss : (xs : List X) (d : X) (i : ℕ) → i < length xs → bad (getD xs i d) ≡ false → first bad (drop i xs) ≡ suc (first bad (drop (i + 1) xs))
+  first-miss xs d i l e =
+      ap (first bad) (drop-cons xs i d l) ∙ ap (λ (b : Bool). cond b 0 (suc (first bad (drop (suc i) xs)))) e
+      ∙ ap (λ (j : ℕ). suc (first bad (drop j xs))) (sym (add-one i))
 
   -- before it no entry is bad
   pub before-first : (xs : List X) (d : X) (k : ℕ) → k < first bad xs → bad (getD xs k d) ≡ false

@@ -40,7 +40,7 @@ module _ (N : ℕ) (positions bits : List ℕ) where
   unfolding placed
   length-placed = length-entries (map (λ p. place p positions) (count 0 N)) bits ∙ length-table (λ p. place p positions) 0 N
 
-  placed-at : (p : ℕ) → p < N → getD (placed N positions bits) p 0 ≡ getD bits (place p positions) 0
+  pub placed-at : (p : ℕ) → p < N → getD (placed N positions bits) p 0 ≡ getD bits (place p positions) 0
   unfolding placed
   placed-at p h =
       getD-entries (map (λ p. place p positions) (count 0 N)) bits p (subst (λ (m : ℕ). p < m) (sym (length-table (λ p. place p positions) 0 N)) h)
@@ -62,7 +62,7 @@ module _ (N : ℕ) (positions bits : List ℕ) where
       go true w = let z : ⊥ = omega arith in absurd z
       go false w = tt
 
-  placed-off : length bits ≡ length positions → (p : ℕ) → p < N → T (not (has p positions)) → getD (placed N positions bits) p 0 ≡ 0
+  pub placed-off : length bits ≡ length positions → (p : ℕ) → p < N → T (not (has p positions)) → getD (placed N positions bits) p 0 ≡ 0
   placed-off e p h t = placed-at p h ∙ ap (λ (i : ℕ). getD bits i 0) (place-absent p positions t) ∙ List·getD-eq-default bits 0 (omega arith)
 
   pub picked : length bits ≡ length positions → T (ascending positions) → ((p : ℕ) → T (has p positions) → p < N)
@@ -75,6 +75,13 @@ module _ (N : ℕ) (positions bits : List ℕ) where
       ∙ ap (λ (j : ℕ). getD bits j 0) (place-getD positions i (ascending-distinct positions up) l))
 
 -- ---- what coding and decoding give, for any layout
+
+pub bits-codeWord : (l : Layout) (rnti : ℕ) (payload : List ℕ) → Bits (codeWord l rnti payload)
+unfolding codeWord
+bits-codeWord l rnti payload =
+    let c : List ℕ = interleave (maskRnti rnti (attach payload)) in
+    bits-transform (l .n) (placed (2 ^ l .n) (l .positions) c)
+    (bits-placed (2 ^ l .n) (l .positions) c (bits-interleave (maskRnti rnti (attach payload)) (bits-maskRnti rnti (attach payload))))
 
 module _ (l : Layout) (E rnti start : ℕ) where
   pub length-coded : (payload : List ℕ) → length (coded l E rnti start payload) ≡ E

@@ -254,16 +254,17 @@ place-absent x (y ∷ ys) h = go (eqb x y) h (place-absent x ys)
     go false h r = ap suc (r h)
 
 -- in a row whose entries differ, entry i stands at i
+-- different entries differ at any two places
+pub apart : (xs : List ℕ) (j i : ℕ) → T (distinct xs) → j < i → i < length xs → getD xs j 0 ≡ getD xs i 0 → ⊥
+apart [] j i d l h e = not-suc-le-zero h
+apart (x ∷ xs) j zero d l h e = not-suc-le-zero l
+apart (x ∷ xs) zero (suc i) d l h e =
+    T-not (has x xs) (left (not (has x xs)) (distinct xs) d)
+    (subst (λ (y : ℕ). T (has y xs)) (sym e) (has-getD xs i 0 (le-of-suc-le-suc h)))
+apart (x ∷ xs) (suc j) (suc i) d l h e = apart xs j i (right (not (has x xs)) (distinct xs) d) (le-of-suc-le-suc l) (le-of-suc-le-suc h) e
+
 pub place-getD : (xs : List ℕ) (i : ℕ) → T (distinct xs) → i < length xs → place (getD xs i 0) xs ≡ i
-place-getD xs i d h = place-first (getD xs i 0) xs i h refl (λ j l e. twice xs j i d l h e)
-  where
-    twice : (xs : List ℕ) (j i : ℕ) → T (distinct xs) → j < i → i < length xs → getD xs j 0 ≡ getD xs i 0 → ⊥
-    twice [] j i d l h e = not-suc-le-zero h
-    twice (x ∷ xs) j zero d l h e = not-suc-le-zero l
-    twice (x ∷ xs) zero (suc i) d l h e =
-        T-not (has x xs) (left (not (has x xs)) (distinct xs) d)
-        (subst (λ (y : ℕ). T (has y xs)) (sym e) (has-getD xs i 0 (le-of-suc-le-suc h)))
-    twice (x ∷ xs) (suc j) (suc i) d l h e = twice xs j i (right (not (has x xs)) (distinct xs) d) (le-of-suc-le-suc l) (le-of-suc-le-suc h) e
+place-getD xs i d h = place-first (getD xs i 0) xs i h refl (λ j l e. apart xs j i d l h e)
 
 -- entries that ascend differ
 pub ascending-distinct : (xs : List ℕ) → T (ascending xs) → T (distinct xs)

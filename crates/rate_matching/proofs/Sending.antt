@@ -11,8 +11,8 @@ use Rattle.nr.specs.declared.RateMatching.the-variants.{Repetition, Puncturing,
 use Rattle.nr.specs.Rows.{count, entries}
 use Rattle.nr.specs.RateMatching.{subBlocks, selected, select}
 use Rattle.nr.proofs.Rows.{length-picked, getD-picked}
+use Rattle.nr.proofs.Gather.{Fits}
 use Rattle.nr.proofs.Matching.{length-subBlocks}
-use Rattle.rate_matching.specs.Sendable.{Sendable}
 use Rattle.rate_matching.proofs.Pieces.{cycle}
 
 -- E entries from place a on are a part
@@ -49,8 +49,8 @@ module _ (y : List ℕ) (E : ℕ) where
     sent-shortening e l = ap sent e ∙ picked-part (selected Shortening (length y) E) 0 E y (omega arith) (λ k m. omega arith)
 
     -- what is asked of the lengths, at the kind that the match found
-    pub sendable : {found : RateMatching} → kind ≡ found → Sendable kind (length y) E → Sendable found (length y) E
-    sendable e s = subst (λ (k : RateMatching). Sendable k (length y) E) e s
+    pub fitting : {found : RateMatching} → kind ≡ found → Fits kind (length y) E → Fits found (length y) E
+    fitting e s = subst (λ (k : RateMatching). Fits k (length y) E) e s
 
 -- ---- the code word in sub-block order, at the front of a longer row
 

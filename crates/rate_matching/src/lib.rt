@@ -7,7 +7,7 @@ ghost use lib.ListN.{length};
 ghost use Rattle.nr.specs.Rows.{count, entries};
 ghost use Rattle.nr.specs.Construction.{P};
 ghost use Rattle.nr.specs.RateMatching.{subBlocks, selected, select};
-ghost use Rattle.rate_matching.specs.Sendable.{Sendable};
+ghost use Rattle.nr.proofs.Gather.{Fits};
 
 // P: which of the code word's 32 sub-blocks comes first, second, .. (Table 5.4.1.1-1).
 const SUB_BLOCKS: [u8; 32] = [
@@ -77,7 +77,7 @@ fn repeat(y: &[u8], out: &mut [u8])
 
 // The sent bits of y (5.4.1.2): over and over if they are more than y has, else y's end or its front.
 fn bit_selection(kind: RateMatching, y: &[u8], out: &mut [u8])
-    requires { ⌜ (0 < length (now y)) × Sendable kind (length (now y)) (length (now out)) ⌝ }
+    requires { ⌜ (0 < length (now y)) × Fits kind (length (now y)) (length (now out)) ⌝ }
     ensures { λ _. ⌜ now (out .exit) ≡ entries (map (selected kind (length (now (y .entry))) (length (now (out .entry)))) (count 0 (length (now (out .entry))))) (now (y .entry)) ⌝ }
 {
     let size = y.len();
@@ -94,7 +94,7 @@ fn bit_selection(kind: RateMatching, y: &[u8], out: &mut [u8])
 
 // The E sent bits of the code word d.
 pub fn select(kind: RateMatching, n: usize, d: &[u8], out: &mut [u8])
-    requires { ⌜ (5 ≤ n) × (n ≤ 9) × (length (now d) ≡ 2 ^ n) × Sendable kind (2 ^ n) (length (now out)) ⌝ }
+    requires { ⌜ (5 ≤ n) × (n ≤ 9) × (length (now d) ≡ 2 ^ n) × Fits kind (2 ^ n) (length (now out)) ⌝ }
     ensures { λ _. ⌜ now (out .exit) ≡ select kind (2 ^ n) (length (now (out .entry))) (now (d .entry)) ⌝ }
 {
     let size = d.len();

@@ -11,7 +11,7 @@ use Rattle.nr.specs.Reliability.{reliability}
 use Rattle.nr.specs.Construction.{P}
 use Rattle.construction.specs.Window.{ranks, marked, padded}
 use Rattle.construction.proofs.Choice.{length-marks}
-use Rattle.construction.proofs.Layouts.{take-replicate}
+use Rattle.rows.proofs.Parts.{take-replicate}
 use borrow.Author.Needs.{needs}
 use Rattle.construction.proofs.select.Statement.{statement}
 use Rattle.construction.proofs.select.Tie as tie

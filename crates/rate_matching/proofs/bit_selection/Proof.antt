@@ -1,12 +1,13 @@
 -- `rate_matching::bit_selection` meets its contract.
 -- Assumes nothing.
 use Prim.Native.Nat.{_≤_}
+use native.Mathlib.Nat.{le-of-lt}
 use native.Mathlib.Omega.{arith}
 use mathlib.Core.Path.{sym, _∙_}
 use lib.ListN.{length}
 use lib.Seq.{length-take-le}
 use borrow.Rule.Slice.PartMut.{mid-len}
-use Rattle.rate_matching.proofs.Sending.{sent-repetition, sent-puncturing, sent-shortening, sendable}
+use Rattle.rate_matching.proofs.Sending.{sent-repetition, sent-puncturing, sent-shortening, fitting}
 use borrow.Author.Needs.{needs}
 use Rattle.rate_matching.proofs.bit_selection.Statement.{statement}
 use Rattle.rate_matching.proofs.bit_selection.Tie as tie
@@ -21,7 +22,7 @@ enum-told-2 : tie.Need-enum-told-2
 enum-told-2 c = search needs
 
 sub-unsent : tie.Need-sub-unsent
-sub-unsent c = sendable (c .before .before .before .before .args .y .now) _ (c .enum-told2 .given .1) (c .before .before .before .before .pre .1)
+sub-unsent c = le-of-lt (fitting (c .before .before .before .before .args .y .now) _ (c .enum-told2 .given .1) (c .before .before .before .before .pre .1))
 
 sub-copy : tie.Need-sub-copy
 sub-copy c = search needs
@@ -36,7 +37,7 @@ copy-requires : tie.Need-copy-requires
 copy-requires c κs =
     let s = c .before .before .before .before .before .before in
     let y = s .args .y .now in
-    let l : length (s .args .out .now) ≤ length y = sendable y _ (c .before .before .enum-told2 .given .1) (s .pre .1) in
+    let l : length (s .args .out .now) ≤ length y = le-of-lt (fitting y _ (c .before .before .enum-told2 .given .1) (s .pre .1)) in
     sym (mid-len _ (length y) y (omega arith) ∙ omega arith)
 
 enum-told-3 : tie.Need-enum-told-3
@@ -46,13 +47,13 @@ slice-aggregate-copy : tie.Need-slice-aggregate-copy
 slice-aggregate-copy c =
     let s = c .before .before .before .before .before in
     let y = s .args .y .now in
-    sym (length-take-le _ y (sendable y _ (c .before .enum-told3 .given .1) (s .pre .1)))
+    sym (length-take-le _ y (le-of-lt (fitting y _ (c .before .enum-told3 .given .1) (s .pre .1))))
 
 copy-requires-2 : tie.Need-copy-requires-2
 copy-requires-2 c κs =
     let s = c .before .before .before .before .before .before in
     let y = s .args .y .now in
-    sym (length-take-le _ y (sendable y _ (c .before .before .enum-told3 .given .1) (s .pre .1)))
+    sym (length-take-le _ y (le-of-lt (fitting y _ (c .before .before .enum-told3 .given .1) (s .pre .1))))
 
 same-length : tie.Need-same-length
 same-length c = search needs
@@ -70,7 +71,7 @@ returns-2 c =
     let s = c .before .before .before .before .before .before .before .before .before in
     let y = s .args .y .now in
     let told = c .before .before .before .before .before .enum-told2 .given .1 in
-    c .before .before .copy .ensures ∙ sym (sent-puncturing y _ told (sendable y _ told (s .pre .1)))
+    c .before .before .copy .ensures ∙ sym (sent-puncturing y _ told (le-of-lt (fitting y _ told (s .pre .1))))
 
 same-length-3 : tie.Need-same-length-3
 same-length-3 c = search needs
@@ -80,7 +81,7 @@ returns-3 c =
     let s = c .before .before .before .before .before .before .before .before .before in
     let y = s .args .y .now in
     let told = c .before .before .before .before .before .enum-told3 .given .1 in
-    c .before .before .copy2 .ensures ∙ sym (sent-shortening y _ told (sendable y _ told (s .pre .1)))
+    c .before .before .copy2 .ensures ∙ sym (sent-shortening y _ told (le-of-lt (fitting y _ told (s .pre .1))))
 
 pub bit-selection-spec : {M : Type 1} → statement M
 bit-selection-spec =

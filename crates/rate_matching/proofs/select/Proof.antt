@@ -7,7 +7,7 @@ use lib.ListN.{length}
 use lib.Pow.{pow-pos}
 use lib.Seq.{length-take-le}
 use Rattle.nr.specs.Construction.{P}
-use Rattle.rate_matching.specs.Sendable.{Sendable}
+use Rattle.nr.proofs.Gather.{Fits}
 use Rattle.rate_matching.proofs.Shifts.{code-le}
 use Rattle.rate_matching.proofs.Sending.{front-length, front-le, selects}
 use borrow.Author.Needs.{needs}
@@ -52,7 +52,7 @@ bit-selection-requires : tie.Need-bit-selection-requires
 bit-selection-requires c κs =
     let s = c .before .before .before .before .before .before .before .before in
     let e = front-length (s .args .d .now) (c .before .before .before .sub-blocks .ensures) (s .pre .2) _ in
-    subst⁻¹ (λ (m : ℕ). (0 < m) × Sendable (s .args .kind) m (length (s .args .out .now))) e (pow-pos (s .args .n), s .pre .3)
+    subst⁻¹ (λ (m : ℕ). (0 < m) × Fits (s .args .kind) m (length (s .args .out .now))) e (pow-pos (s .args .n), s .pre .3)
 
 same-length : tie.Need-same-length
 same-length c = search needs

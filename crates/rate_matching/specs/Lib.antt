@@ -1,2 +1,0 @@
--- What the selection asks of its lengths.
-pub mod Sendable
