@@ -8,15 +8,15 @@ use mathlib.Core.Path.{_≡_, refl, sym, subst, ap, _∙_}
 use mathlib.Core.Logic.{_≢_, _↔_}
 use mathlib.Core.Bool.{Bool, true, false, cond, not}
 use mathlib.Core.List.{List}
-use lib.Dec.{T}
+use lib.Dec.{T, eqb}
 use lib.IntN.{ℤ, pos, natAbs}
 use lib.ListN.{length, getD, take}
 use lib.Seq.{length-take-le}
-use borrow.Author.Tests.{le-ltb, ltb-false, eq-eqb, ne-eqb}
+use borrow.Author.Tests.{le-ltb, ltb-false, eq-eqb, ne-eqb, eqb-true, eqb-false}
 use Rattle.nr.specs.Rows.{first}
 use Rattle.nr.specs.declared.Numbers.{Numbers}
 use Rattle.nr.specs.Numbers.{K}
-use Rattle.nr.specs.Answer.{refusalOf, Outcome, outcome}
+use Rattle.nr.specs.Answer.{refusal, refusalOf, Outcome, outcome}
 use Rattle.nr.specs.Construction.{Layout, layout}
 use Rattle.nr.specs.Scrambling.{cInit}
 use Rattle.nr.specs.Parity.{parityMatches}
@@ -25,7 +25,7 @@ use Rattle.nr.specs.Demand3.{Accepted, Payload}
 use Rattle.nr.specs.Decoding.{received, orParity, badSoft, decodingFor, decoding}
 use Rattle.nr.proofs.Zip.{Bits, bits-take}
 use Rattle.nr.proofs.Construction.{Sized, accepted, positions}
-use Rattle.nr.proofs.Refusals.{Passes, passes-exactly, at-most-six, first-none, before-first, FirstBad, six-first}
+use Rattle.nr.proofs.Refusals.{Passes, passes-exactly, at-most-six, first-none, before-first, FirstBad, six-first, six-sizes}
 use Rattle.nr.proofs.Tests.{is, isn't}
 use Rattle.nr.proofs.RoundTrip.{length-coded, bits-coded, length-received, bits-received}
 
@@ -179,12 +179,31 @@ module _ (s : Numbers) (soft : List ℤ) (out : List ℕ) where
     λ r. outcome-number _ _ _ out ∙ ap (λ (j : ℕ). orParity j (s .a) b) (ran (r .0)) ∙ differs (s .a) b (r .1),
   )
 
+-- where 6 is given, A and E are accepted and the payload is A long
+coding-sizes : (s : Numbers) (payload out : List ℕ) → coding s payload out .number ≡ 6 → (refusal (s .a) (s .e) ≡ 0) × (length payload ≡ s .a)
+unfolding coding codingFor
+coding-sizes s payload out e = six-sizes (s .a) (s .e) badByte payload (s .a) out (s .e) (sym (outcome-number _ _ _ out) ∙ e)
+
 -- 6 carries the place of the first bad entry
 pub coding-bad : (s : Numbers) (payload out : List ℕ) → coding s payload out .number ≡ 6 → FirstBad badByte payload 0 (coding s payload out .place)
 unfolding coding codingFor
 coding-bad s payload out e =
     let six : refusalOf (s .a) (s .e) badByte payload (s .a) out (s .e) ≡ 6 = sym (outcome-number _ _ _ out) ∙ e in
     subst (FirstBad badByte payload 0) (sym (outcome-place _ (first badByte payload) _ out six)) (six-first (s .a) (s .e) badByte payload (s .a) out (s .e) 0 six)
+
+-- so that the place is below 140, whatever was handed in
+pub coding-place : (s : Numbers) (payload out : List ℕ) → coding s payload out .place < 140
+coding-place s payload out = go (eqb (o .number) 6) refl
+  where
+    o : Outcome
+    o = coding s payload out
+
+    go : (b : Bool) → eqb (o .number) 6 ≡ b → o .place < 140
+    go true e =
+        let six : o .number ≡ 6 = eqb-true (o .number) 6 e in
+        let sizes = coding-sizes s payload out six in
+        omega (arith, coding-bad s payload out six .inside, sizes .1, accepted (s .a) (s .e) (sizes .0) .high)
+    go false e = let z : o .place ≡ 0 = coding-untouched s payload out .place (eqb-false (o .number) 6 e) in omega arith
 
 pub decoding-bad : (s : Numbers) (soft : List ℤ) (out : List ℕ) → decoding s soft out .number ≡ 6 → FirstBad badSoft soft (pos 0) (decoding s soft out .place)
 unfolding decoding decodingFor

@@ -158,6 +158,19 @@ module _ {X : Type 0} (A E : ℕ) (bad : X → Bool) (input : List X) (asked : �
       chain-six (outside A) (not (has E lengths)) (ltb E (K A)) (eqb (length input) asked) (eqb (length out) wanted)
       (ltb (first bad input) (length input))
 
+  -- where 6 is given, A and E are accepted and the input has the length that was asked
+  pub six-sizes : refusalOf A E bad input asked out wanted ≡ 6 → (refusal A E ≡ 0) × (length input ≡ asked)
+  unfolding refusal refusalOf
+  six-sizes =
+      go (outside A) (not (has E lengths)) (ltb E (K A)) (eqb (length input) asked) refl (eqb (length out) wanted) (ltb (first bad input) (length input))
+    where
+      go : (a b c d : Bool) → eqb (length input) asked ≡ d → (e f : Bool) → chain a b c d e f ≡ 6 → (_≡_ {A = ℕ} (cond a 1 (cond b 2 (cond c 3 0))) 0) × (length input ≡ asked)
+      go true b c d s e f w = let z : ⊥ = omega arith in absurd z
+      go false true c d s e f w = let z : ⊥ = omega arith in absurd z
+      go false false true d s e f w = let z : ⊥ = omega arith in absurd z
+      go false false false false s e f w = let z : ⊥ = omega arith in absurd z
+      go false false false true s e f w = (refl, eqb-true (length input) asked s)
+
   pub at-most-six : refusalOf A E bad input asked out wanted ≤ 6
   at-most-six = six .0
 

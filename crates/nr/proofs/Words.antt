@@ -3,8 +3,8 @@
 use Prim.Native.Nat.{ℕ, zero, suc, _+_, _-_, _*_, _/_, _%_, _^_, _≤_, _<_}
 use native.Mathlib.Nat.{not-suc-le-zero, le-of-suc-le-suc, lt-of-lt-of-le, div-eq-of-lt, mod-eq-of-lt, one-mul, pow-suc}
 use native.Mathlib.Omega.{arith}
-use mathlib.Core.Path.{_≡_, refl, sym, ap, ap₂, _∙_}
-use mathlib.Core.List.{List, [], _∷_, _++_, zipWith}
+use mathlib.Core.Path.{_≡_, refl, sym, ap, _∙_}
+use mathlib.Core.List.{[], _∷_, _++_, zipWith}
 use lib.Bits.{differ, bitAnd, bitXor, xor-step, xor-shr, and-mask}
 use lib.ListN.{getD, replicate}
 use lib.Pow.{pow-mono, pow-lt, shr-shr, field, mod-pow-add}

@@ -1,0 +1,2 @@
+-- Laws of the packed answer.
+pub mod Packing

@@ -1,0 +1,2 @@
+-- What the calls from C take and return.
+pub mod Packed

@@ -1,0 +1,16 @@
+-- The calls from C: the numbers are passed one by one, and the answer comes back as one number.
+-- Assumes nothing.
+use Prim.Native.Nat.{ℕ, _+_, _*_}
+use mathlib.Core.Path.{_≡_}
+use mathlib.Core.List.{List}
+use Rattle.nr.specs.declared.Numbers.{Numbers}
+use Rattle.nr.specs.Answer.{Outcome}
+
+-- the numbers of a call
+abbrev pub numbers : ℕ → ℕ → ℕ → ℕ → Numbers
+numbers A E rnti n = record { a = A; e = E; rnti = rnti; «n_id» = n }
+
+-- what is returned and what the output buffer then holds: the number plus 256 times the place that it carries, and the buffer
+pub record Returns (o : Outcome) (r : ℕ) (buffer : List ℕ) : Type 0 where
+  pub answer : r ≡ o .number + 256 * o .place
+  pub output : buffer ≡ o .buffer

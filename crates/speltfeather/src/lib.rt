@@ -1,0 +1,41 @@
+// The C interface (include/speltfeather.h).
+use nr::Answer;
+use nr::Numbers;
+ghost use mathlib.Core.Path.{_≡_};
+ghost use Prim.Native.Nat.{_+_, _*_, _<_, _^_};
+ghost use Rattle.nr.specs.Answer.{number, placeOf};
+ghost use Rattle.nr.specs.Coding.{coding};
+ghost use Rattle.speltfeather.specs.Packed.{numbers, Returns};
+
+// An answer as one number: its own plus 256 times the place that it carries.
+fn pack(answer: Answer) -> u64
+    requires { ⌜ placeOf answer < 2 ^ 32 ⌝ }
+    ensures { λ r. ⌜ r ≡ number answer + 256 * placeOf answer ⌝ }
+{
+    match answer {
+        Answer::Done => 0,
+        Answer::PayloadSize => 1,
+        Answer::CodedLength => 2,
+        Answer::TooManyBits => 3,
+        Answer::InputLength => 4,
+        Answer::OutputLength => 5,
+        Answer::BadEntry(place) => 6 + 256 * (place as u64),
+        Answer::ParityMismatch => 7,
+    }
+}
+
+// Codes a payload: `dci::encode`, with the numbers one by one and the answer as one number.
+#[no_mangle]
+pub extern "C" fn spelt_encode(
+    a: u64,
+    e: u64,
+    rnti: u16,
+    n_id: u16,
+    payload: &[u8],
+    out: &mut [u8],
+) -> u64
+    ensures { λ r. ⌜ Returns (coding (numbers a e rnti «n_id») (now (payload .entry)) (now (out .entry))) r (now (out .exit)) ⌝ }
+{
+    let answer = dci::encode(Numbers { a, e, rnti, n_id }, payload, out);
+    pack(answer)
+}
