@@ -16,13 +16,12 @@ use Rattle.nr.proofs.Answer.{the-type}
 use Rattle.nr.specs.declared.Numbers.{Numbers}
 use Rattle.nr.specs.declared.Answer.{Answer}
 use Rattle.nr.specs.declared.Answer.the-variants.{Done, PayloadSize, CodedLength, TooManyBits, InputLength, OutputLength, BadEntry, ParityMismatch}
-use Rattle.nr.specs.Rows.{has, first}
+use Rattle.nr.specs.Rows.{has, first, Bits}
 use Rattle.nr.specs.Numbers.{K}
 use Rattle.nr.specs.Answer.{lengths, firstOf, outside, number, placeOf, refusalOf, outcome, given}
 use Rattle.nr.specs.Construction.{layout}
 use Rattle.nr.specs.Scrambling.{cInit}
 use Rattle.nr.specs.Coding.{coded, badByte, codingFor, coding}
-use Rattle.nr.proofs.Zip.{Bits}
 use Rattle.nr.proofs.Refusals.{Passes, passes-exactly, before-first}
 use Rattle.dci.specs.Checks.{sizeRefusal, Says}
 

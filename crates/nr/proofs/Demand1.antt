@@ -13,7 +13,7 @@ use lib.IntN.{ℤ, pos, natAbs}
 use lib.ListN.{length, getD, take}
 use lib.Seq.{length-take-le}
 use borrow.Author.Tests.{le-ltb, ltb-false, eq-eqb, ne-eqb, eqb-true, eqb-false}
-use Rattle.nr.specs.Rows.{first}
+use Rattle.nr.specs.Rows.{first, Bits}
 use Rattle.nr.specs.declared.Numbers.{Numbers}
 use Rattle.nr.specs.Numbers.{K}
 use Rattle.nr.specs.Answer.{refusal, refusalOf, Outcome, outcome}
@@ -23,7 +23,7 @@ use Rattle.nr.specs.Parity.{parityMatches}
 use Rattle.nr.specs.Coding.{badByte, codingFor, coding}
 use Rattle.nr.specs.Demand3.{Accepted, Payload}
 use Rattle.nr.specs.Decoding.{received, orParity, badSoft, decodingFor, decoding}
-use Rattle.nr.proofs.Zip.{Bits, bits-take}
+use Rattle.nr.proofs.Zip.{bits-take}
 use Rattle.nr.proofs.Construction.{Sized, accepted, positions}
 use Rattle.nr.proofs.Refusals.{Passes, passes-exactly, at-most-six, first-none, before-first, FirstBad, six-first, six-sizes}
 use Rattle.nr.proofs.Tests.{is, isn't}

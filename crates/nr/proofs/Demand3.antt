@@ -15,7 +15,7 @@ use lib.ListN.{length, getD, take, length-map, replicate, length-replicate, List
 use borrow.Author.Tests.{le-ltb, leb-true, leb-false}
 use Rattle.nr.specs.declared.Numbers.{Numbers}
 use Rattle.nr.specs.declared.RateMatching.the-variants.{Repetition, Puncturing, Shortening}
-use Rattle.nr.specs.Rows.{count, first}
+use Rattle.nr.specs.Rows.{count, first, Bits}
 use Rattle.nr.specs.Numbers.{K}
 use Rattle.nr.specs.Answer.{refusalOf, Outcome, outcome}
 use Rattle.nr.specs.Parity.{attach, parityMatches}
@@ -26,7 +26,7 @@ use Rattle.nr.specs.Decoding.{received, orParity, badSoft, decodingFor, 
 use Rattle.nr.specs.Demand3.{Accepted, Payload, Noiseless, Demand3, HypothesesMet}
 use Rattle.nr.proofs.Tests.{is}
 use Rattle.nr.proofs.Rows.{getD-map, not-has-left}
-use Rattle.nr.proofs.Zip.{Bits, bits-replicate}
+use Rattle.nr.proofs.Zip.{bits-replicate}
 use Rattle.nr.proofs.Parity.{accepts, attach-front}
 use Rattle.nr.proofs.SuccessiveDecoder.{Sign}
 use Rattle.nr.proofs.Construction.{Sized, accepted, positions}

@@ -8,9 +8,9 @@ use mathlib.Core.List.{List}
 use lib.ListN.{length, getD, take, drop}
 use lib.Seq.{getD-take, getD-drop}
 use lib.Pow.{high, low}
-use Rattle.nr.specs.Rows.{xor}
+use Rattle.nr.specs.Rows.{xor, Bits}
 use Rattle.nr.specs.Transform.{transform}
-use Rattle.nr.proofs.Zip.{Bits, bits-take, bits-drop}
+use Rattle.nr.proofs.Zip.{bits-take, bits-drop}
 use Rattle.nr.proofs.Transform.{Each, halves, length-lo, length-hi, lo, hi, transform-lo, transform-hi}
 
 -- the rows (1 0), (1 1)

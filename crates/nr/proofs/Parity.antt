@@ -10,10 +10,10 @@ use mathlib.Core.List.{List, [], _∷_, _++_, zipWith, append-assoc}
 use lib.Dec.{T, eqb}
 use lib.ListN.{length, getD, take, drop, replicate, length-append, length-drop, length-replicate, take-append-drop}
 use lib.Seq.{take-at, drop-at, length-take-le}
-use Rattle.nr.specs.Rows.{msbFirst, xor, xors, count, keep}
+use Rattle.nr.specs.Rows.{msbFirst, xor, xors, count, keep, Bits}
 use Rattle.nr.specs.Parity.{generator, addTimes, divide, remainder, parity, attach, maskRnti, parityMatches}
 use Rattle.nr.proofs.Rows.{same-refl, same-eq}
-use Rattle.nr.proofs.Zip.{Bits, bits-append, bits-take, bits-drop, bits-replicate, bits-xors, bits-msbFirst, length-msbFirst, length-xors, xors-back, xor-swap, xors-comm, xors-zeros, cons, zipWith-append}
+use Rattle.nr.proofs.Zip.{bits-append, bits-take, bits-drop, bits-replicate, bits-xors, bits-msbFirst, length-msbFirst, length-xors, xors-back, xor-swap, xors-comm, xors-zeros, cons, zipWith-append}
 
 -- the generator below D^24
 abbrev pub low : List ℕ

@@ -11,7 +11,7 @@ use lib.ListN.{length, getD, length-map, List·getD-eq-default}
 use lib.Seq.{ext-getD}
 use Rattle.nr.specs.declared.RateMatching.{RateMatching}
 use Rattle.nr.specs.declared.RateMatching.the-variants.{Repetition, Puncturing, Shortening}
-use Rattle.nr.specs.Rows.{count, has, place, entries}
+use Rattle.nr.specs.Rows.{count, has, place, entries, Bits}
 use Rattle.nr.specs.Parity.{attach, maskRnti}
 use Rattle.nr.specs.Interleaver.{interleave, deinterleave}
 use Rattle.nr.specs.Construction.{unsent, Layout}
@@ -23,7 +23,7 @@ use Rattle.nr.specs.Coding.{placed, codeWord, coded}
 use Rattle.nr.specs.Decoding.{decided, received}
 use Rattle.nr.proofs.Tests.{ascending, holds}
 use Rattle.nr.proofs.Rows.{length-count, length-table, getD-table, length-entries, getD-entries, has-getD, place-absent, place-getD, ascending-distinct}
-use Rattle.nr.proofs.Zip.{Bits, bits-entries, length-zipWith, getD-zipWith, length-xors, getD-xors, bits-xors}
+use Rattle.nr.proofs.Zip.{bits-entries, length-zipWith, getD-zipWith, length-xors, getD-xors, bits-xors}
 use Rattle.nr.proofs.Parity.{length-attach, bits-attach, length-maskRnti, bits-maskRnti, maskRnti-twice}
 use Rattle.nr.proofs.Interleaver.{length-interleave, bits-interleave, length-deinterleave, deinterleave-interleave}
 use Rattle.nr.proofs.Transform.{Each, Down, bits-transform}

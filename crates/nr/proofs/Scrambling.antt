@@ -9,10 +9,10 @@ use mathlib.Core.List.{_++_}
 use lib.Bits.{bitXor, xor-shr}
 use lib.ListN.{length, getD}
 use lib.Pow.{pow-pos, pow-add, shr-shr, mod-pow-add}
-use Rattle.nr.specs.Rows.{bit, xor}
+use Rattle.nr.specs.Rows.{bit, xor, Bits}
 use Rattle.nr.specs.Scrambling.{next1, next2, shift, step1, step2, after, terms, gold}
 use Rattle.nr.proofs.Words.{bit-xor, bit-shr}
-use Rattle.nr.proofs.Zip.{Bits, cons}
+use Rattle.nr.proofs.Zip.{cons}
 
 -- ---- E bits
 

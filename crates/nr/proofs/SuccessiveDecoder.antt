@@ -11,10 +11,10 @@ use lib.Dec.{T}
 use lib.IntN.{ℤ, pos, negsuc, +ℤ-idr}
 use lib.ListN.{length, getD, take, drop, length-append, take-append-drop}
 use lib.Seq.{getD-take, getD-drop}
-use Rattle.nr.specs.Rows.{xor}
+use Rattle.nr.specs.Rows.{xor, Bits}
 use Rattle.nr.specs.Transform.{transform}
 use Rattle.nr.specs.SuccessiveDecoder.{f, g, fs, gs, decide, successive}
-use Rattle.nr.proofs.Zip.{length-zipWith, getD-zipWith, Bits, bits-append, bits-take, bits-drop, bits-replicate}
+use Rattle.nr.proofs.Zip.{length-zipWith, getD-zipWith, bits-append, bits-take, bits-drop, bits-replicate}
 use Rattle.nr.proofs.Transform.{Each, lt-lo, lt-hi, length-lo, length-hi, lo, hi, len-lo, bits-transform, transform-lo, transform-hi, Down, down-lo, down-hi, down-half}
 
 -- ---- one place

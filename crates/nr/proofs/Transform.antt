@@ -11,9 +11,9 @@ use lib.Dec.{T}
 use lib.ListN.{length, getD, take, drop, length-append, length-drop, take-append-drop}
 use lib.Seq.{length-take-le, getD-take, getD-drop, take-at, drop-at}
 use lib.Pow.{pow-pos, pow-add, pow-mono}
-use Rattle.nr.specs.Rows.{bit, xor, xors}
+use Rattle.nr.specs.Rows.{bit, xor, xors, Bits}
 use Rattle.nr.specs.Transform.{transform}
-use Rattle.nr.proofs.Zip.{Bits, bits-append, bits-take, bits-drop, bits-xors, length-xors, getD-xors, xors-swap, xors-back, take-zipWith, drop-zipWith, zipWith-append}
+use Rattle.nr.proofs.Zip.{bits-append, bits-take, bits-drop, bits-xors, length-xors, getD-xors, xors-swap, xors-back, take-zipWith, drop-zipWith, zipWith-append}
 
 -- P holds at each position below 2 ^ n
 abbrev pub Each : ℕ → (ℕ → Type 0) → Type 0

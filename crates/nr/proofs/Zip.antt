@@ -6,7 +6,7 @@ use native.Mathlib.Omega.{arith}
 use mathlib.Core.Path.{_≡_, refl, sym, ap, ap₂, _∙_}
 use mathlib.Core.List.{List, [], _∷_, _++_, zipWith}
 use lib.ListN.{length, getD, take, drop, replicate}
-use Rattle.nr.specs.Rows.{entries, msbFirst, xor, xors}
+use Rattle.nr.specs.Rows.{entries, msbFirst, Bits, xor, xors}
 
 module _ {A B C : Type 0} (h : A → B → C) where
   pub length-zipWith : (a : List A) (b : List B) (n : ℕ) → length a ≡ n → length b ≡ n → length (zipWith h a b) ≡ n
@@ -53,10 +53,6 @@ pub cons : {x y : ℕ} {a b : List ℕ} → x ≡ y → a ≡ b → x ∷ a ≡ 
 cons p q = ap₂ (λ (r : ℕ) (s : List ℕ). r ∷ s) p q
 
 -- ---- rows of bits
-
--- each entry is 0 or 1
-abbrev pub Bits : List ℕ → Type 0
-Bits u = (k : ℕ) → getD u k 0 ≤ 1
 
 pub bits-append : (a b : List ℕ) → Bits a → Bits b → Bits (a ++ b)
 bits-append [] b p q k = q k

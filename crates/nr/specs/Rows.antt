@@ -1,6 +1,6 @@
 -- Vocabulary: rows of numbers and the bits of a number. A row is a list, its places are counted from 0, and a bit is 0 or 1.
 -- Assumes nothing.
-use Prim.Native.Nat.{ℕ, zero, suc, _+_, _-_, _/_, _%_, _^_}
+use Prim.Native.Nat.{ℕ, zero, suc, _+_, _-_, _/_, _%_, _^_, _≤_}
 use mathlib.Core.Bool.{Bool, true, false, cond, _&&_, _||_}
 use mathlib.Core.List.{List, [], _∷_, map, zipWith}
 use lib.Dec.{eqb}
@@ -55,6 +55,10 @@ bit i x = x / 2 ^ i % 2
 abbrev pub msbFirst : ℕ → ℕ → List ℕ
 msbFirst zero x = []
 msbFirst (suc k) x = bit k x ∷ msbFirst k x
+
+-- a row of bits: each entry is 0 or 1
+abbrev pub Bits : List ℕ → Type 0
+Bits row = (k : ℕ) → getD row k 0 ≤ 1
 
 -- addition mod 2: of two bits, of two rows of bits place by place
 abbrev pub xor : ℕ → ℕ → ℕ

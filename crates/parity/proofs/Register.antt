@@ -9,9 +9,9 @@ use lib.Bits.{bitAnd, bitXor, and-le-r, and-mask, mask-lt, xor-zero-r, xor-lt}
 use lib.ListN.{length, getD, take, replicate, length-append, length-replicate, replicate-append-replicate}
 use native.Mathlib.Numerals.{add-one}
 use lib.Seq.{append-snoc, take-suc, take-all}
-use Rattle.nr.specs.Rows.{bit, msbFirst, xor, xors}
+use Rattle.nr.specs.Rows.{bit, msbFirst, xor, xors, Bits}
 use Rattle.nr.specs.Parity.{addTimes, divide, generator, parity, attach, maskRnti}
-use Rattle.nr.proofs.Zip.{Bits, cons, bits-append, bits-replicate, bits-msbFirst, length-msbFirst, xors-comm, xors-zeros, xors-append}
+use Rattle.nr.proofs.Zip.{cons, bits-append, bits-replicate, bits-msbFirst, length-msbFirst, xors-comm, xors-zeros, xors-append}
 use Rattle.nr.proofs.Words.{and-one, msbFirst-xor, msbFirst-mod, msbFirst-double, msbFirst-longer, xor-low}
 use Rattle.nr.proofs.Parity.{low, length-addTimes, bits-addTimes, addTimes-none, addTimes-xors, onesBefore, parity-is, length-parity}
 use Rattle.parity.specs.Register.{taken, Holds}

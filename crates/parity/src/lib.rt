@@ -3,9 +3,8 @@
 ghost use mathlib.Core.Path.{_≡_};
 ghost use Prim.Native.Nat.{_+_, _<_, _≤_, _^_};
 ghost use lib.ListN.{length};
-ghost use Rattle.nr.specs.Rows.{msbFirst};
+ghost use Rattle.nr.specs.Rows.{msbFirst, Bits};
 ghost use Rattle.nr.specs.Parity.{parity, attach, maskRnti};
-ghost use Rattle.nr.proofs.Zip.{Bits};
 ghost use Rattle.parity.specs.Register.{taken, Holds};
 
 // The generator below D^24.

@@ -7,7 +7,8 @@ use mathlib.Core.Path.{_≡_, refl, sym, ap, ap₂, _∙_, subst}
 use mathlib.Core.List.{List, _++_, append-assoc, append-nil}
 use lib.ListN.{length, take, drop, length-append, length-drop, take-append-drop, drop-of-length-le}
 use lib.Seq.{length-take-le, take-all, drop-drop, take-add, take-at, drop-at}
-use Rattle.nr.proofs.Zip.{Bits, bits-append, bits-take, bits-drop}
+use Rattle.nr.specs.Rows.{Bits}
+use Rattle.nr.proofs.Zip.{bits-append, bits-take, bits-drop}
 use Rattle.polar.specs.Blocks.{joined, each}
 use Rattle.polar.proofs.Halves.{bits-joined}
 

@@ -9,10 +9,10 @@ use mathlib.Core.List.{List, _++_}
 use lib.Bits.{bitXor}
 use lib.ListN.{length, getD, set, take, drop, length-drop}
 use lib.Seq.{length-take-le, take-suc, drop-cons, append-snoc, set-at, getD-take, getD-drop, take-all}
-use Rattle.nr.specs.Rows.{xor, xors}
+use Rattle.nr.specs.Rows.{xor, xors, Bits}
 use Rattle.nr.proofs.Rows.{getD-behind}
 use Rattle.nr.proofs.Words.{xor-bits}
-use Rattle.nr.proofs.Zip.{Bits, bits-append, bits-drop, bits-xors, getD-xors, length-xors}
+use Rattle.nr.proofs.Zip.{bits-append, bits-drop, bits-xors, getD-xors, length-xors}
 use Rattle.polar.specs.Blocks.{joined}
 
 -- the sums of the two halves

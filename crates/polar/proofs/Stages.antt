@@ -9,10 +9,9 @@ use mathlib.Core.List.{List, _++_}
 use lib.ListN.{length}
 use lib.Pow.{pow-pos, pow-mono, pow-add}
 use lib.Seq.{take-at, drop-at}
-use Rattle.nr.specs.Rows.{xors}
+use Rattle.nr.specs.Rows.{xors, Bits}
 use Rattle.nr.specs.Transform.{transform}
 use Rattle.nr.proofs.Transform.{lo, hi, len-lo, length-transform}
-use Rattle.nr.proofs.Zip.{Bits}
 use Rattle.polar.specs.Blocks.{joined, each}
 use Rattle.polar.proofs.Halves.{bits-joined}
 use Rattle.polar.proofs.Blocks.{each-same, each-whole, bits-each, each-pairs}

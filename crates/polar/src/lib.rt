@@ -3,9 +3,8 @@ ghost use mathlib.Core.Path.{_≡_};
 ghost use mathlib.Core.List.{_++_};
 ghost use Prim.Native.Nat.{_*_, _/_, _%_, _^_, _<_};
 ghost use lib.ListN.{length, take, drop};
-ghost use Rattle.nr.specs.Rows.{xors};
+ghost use Rattle.nr.specs.Rows.{xors, Bits};
 ghost use Rattle.nr.specs.Transform.{transform};
-ghost use Rattle.nr.proofs.Zip.{Bits};
 ghost use Rattle.polar.specs.Blocks.{joined, each};
 
 // The code bits of two halves become those of the whole: the second half is added to the first.

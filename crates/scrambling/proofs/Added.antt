@@ -8,11 +8,11 @@ use mathlib.Core.List.{List, [], _∷_, _++_, zipWith, append-nil, append-assoc}
 use lib.Bits.{bitXor}
 use lib.ListN.{length, getD, set, take, drop, length-append, length-drop}
 use lib.Seq.{length-take-le, take-length, drop-length, take-at, drop-at, take-add, drop-drop, set-split, drop-cons}
-use Rattle.nr.specs.Rows.{bit, xor, xors}
+use Rattle.nr.specs.Rows.{bit, xor, xors, Bits}
 use Rattle.nr.specs.Scrambling.{step1, step2, after, terms}
 use Rattle.nr.proofs.Scrambling.{length-terms, terms-append, x1-starts, x2-starts}
 use Rattle.nr.proofs.Words.{bit-le, bit-xor, xor-bits}
-use Rattle.nr.proofs.Zip.{Bits, bits-append, bits-take, bits-drop, bits-xors, cons, length-xors, zipWith-append}
+use Rattle.nr.proofs.Zip.{bits-append, bits-take, bits-drop, bits-xors, cons, length-xors, zipWith-append}
 
 -- the first m entries of xs with the terms from s1 and s2 on added, and the rest as it was
 abbrev pub added : List ℕ → ℕ → ℕ → ℕ → List ℕ

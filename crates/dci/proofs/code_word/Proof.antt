@@ -8,7 +8,7 @@ use Rattle.nr.specs.Parity.{attach, maskRnti}
 use Rattle.nr.specs.Interleaver.{interleave}
 use Rattle.nr.specs.Transform.{transform}
 use Rattle.nr.specs.Coding.{placed}
-use Rattle.nr.proofs.Zip.{Bits}
+use Rattle.nr.specs.Rows.{Bits}
 use Rattle.nr.proofs.Parity.{bits-maskRnti}
 use Rattle.nr.proofs.Interleaver.{bits-interleave}
 use Rattle.nr.proofs.RoundTrip.{length-placed, bits-placed}

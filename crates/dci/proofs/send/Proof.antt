@@ -6,11 +6,10 @@ use mathlib.Core.Path.{_≡_, sym, subst, ap, ap₂, _∙_}
 use mathlib.Core.List.{List, _++_}
 use lib.ListN.{length, take, drop, replicate}
 use lib.Pow.{pow-mono}
-use Rattle.nr.specs.Rows.{xors}
+use Rattle.nr.specs.Rows.{xors, Bits}
 use Rattle.nr.specs.RateMatching.{select}
 use Rattle.nr.specs.Scrambling.{gold}
 use Rattle.nr.specs.Coding.{codeWord, coded}
-use Rattle.nr.proofs.Zip.{Bits}
 use Rattle.nr.proofs.Words.{shl-one}
 use Rattle.nr.proofs.Matching.{length-select, bits-select}
 use Rattle.nr.proofs.RoundTrip.{bits-codeWord}

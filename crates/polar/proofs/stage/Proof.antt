@@ -4,7 +4,8 @@ use Prim.Native.Nat.{_+_, _*_, _/_, _-_, _≤_}
 use native.Mathlib.Omega.{arith}
 use mathlib.Core.Path.{_≡_, refl, _∙_}
 use lib.ListN.{length, length-take, length-drop}
-use Rattle.nr.proofs.Zip.{Bits, bits-take, bits-drop}
+use Rattle.nr.specs.Rows.{Bits}
+use Rattle.nr.proofs.Zip.{bits-take, bits-drop}
 use Rattle.polar.specs.Blocks.{joined, each}
 use Rattle.polar.proofs.Blocks.{Left, left-all, room, left-next, left-none, bits-next}
 use Rattle.polar.proofs.stage.Statement.{statement}
