@@ -12,7 +12,7 @@ use borrow.Author.Tests.{eqb-true, eqb-false}
 use Rattle.nr.specs.Rows.{has, keep, last}
 use Rattle.nr.specs.Reliability.{reliability}
 use Rattle.nr.specs.SuccessiveDecoder.{marks}
-use Rattle.nr.proofs.Rows.{length-table, getD-table}
+use Rattle.nr.proofs.RoundTrip.{length-marks, marks-at}
 use Rattle.nr.proofs.Sifting.{keep-append}
 
 -- the table's length
@@ -23,32 +23,24 @@ reliability-length = refl
 -- ---- marks
 
 module _ (N : ℕ) where
-  pub length-marks : (ps : List ℕ) → length (marks N ps) ≡ N
-  unfolding marks
-  length-marks ps = length-table (λ p. cond (has p ps) 1 0) 0 N
-
-  pub marks-at : (ps : List ℕ) (p : ℕ) → p < N → getD (marks N ps) p 0 ≡ cond (has p ps) 1 0
-  unfolding marks
-  marks-at ps p l = getD-table (λ q. cond (has q ps) 1 0) N p 0 l
-
   -- none
   pub marks-none : replicate N 0 ≡ marks N []
   marks-none =
-      ext-getD 0 (replicate N 0) (marks N []) (length-replicate N 0 ∙ sym (length-marks []))
-      (λ i l. let h : i < N = omega (arith, length-replicate {A = ℕ} N 0) in getD-replicate N i 0 0 h ∙ sym (marks-at [] i h))
+      ext-getD 0 (replicate N 0) (marks N []) (length-replicate N 0 ∙ sym (length-marks N []))
+      (λ i l. let h : i < N = omega (arith, length-replicate {A = ℕ} N 0) in getD-replicate N i 0 0 h ∙ sym (marks-at N [] i h))
 
   -- one more
   pub marks-more : (ps : List ℕ) (p : ℕ) → p < N → set (marks N ps) p 1 ≡ marks N (p ∷ ps)
   marks-more ps p l =
-      ext-getD 0 (set (marks N ps) p 1) (marks N (p ∷ ps)) (length-set (marks N ps) p 1 ∙ length-marks ps ∙ sym (length-marks (p ∷ ps)))
-      (λ i h. let m : i < N = omega (arith, length-set (marks N ps) p 1, length-marks ps) in one i m ∙ sym (marks-at (p ∷ ps) i m))
+      ext-getD 0 (set (marks N ps) p 1) (marks N (p ∷ ps)) (length-set (marks N ps) p 1 ∙ length-marks N ps ∙ sym (length-marks N (p ∷ ps)))
+      (λ i h. let m : i < N = omega (arith, length-set (marks N ps) p 1, length-marks N ps) in one i m ∙ sym (marks-at N (p ∷ ps) i m))
     where
       one : (i : ℕ) → i < N → getD (set (marks N ps) p 1) i 0 ≡ cond (eqb i p || has i ps) 1 0
       one i m = go (eqb i p) refl
         where
           go : (b : Bool) → eqb i p ≡ b → getD (set (marks N ps) p 1) i 0 ≡ cond (b || has i ps) 1 0
-          go true e = ap (λ (j : ℕ). getD (set (marks N ps) p 1) j 0) (eqb-true i p e) ∙ getD-set-same (marks N ps) p 1 0 (omega (arith, length-marks ps))
-          go false e = getD-set-other (marks N ps) p i 1 0 (eqb-false i p e) ∙ marks-at ps i m
+          go true e = ap (λ (j : ℕ). getD (set (marks N ps) p 1) j 0) (eqb-true i p e) ∙ getD-set-same (marks N ps) p 1 0 (omega (arith, length-marks N ps))
+          go false e = getD-set-other (marks N ps) p i 1 0 (eqb-false i p e) ∙ marks-at N ps i m
 
 -- ---- the loop
 

@@ -15,7 +15,7 @@ use Rattle.nr.proofs.Rows.{keep-cong, ranged}
 use Rattle.nr.proofs.Construction.{Sized, exponent, n-by-length, enough, positions}
 use Rattle.construction.specs.declared.Window.{Window}
 use Rattle.construction.specs.Window.{usable, admits, marked}
-use Rattle.construction.proofs.Choice.{length-marks, marks-at}
+use Rattle.nr.proofs.RoundTrip.{length-marks, marks-at}
 
 -- the places that are marked
 marked-marks : (N : ℕ) (ps : List ℕ) → marked (marks N ps) ≡ keep (λ p. has p ps) (count 0 N)

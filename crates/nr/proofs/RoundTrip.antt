@@ -35,6 +35,15 @@ use Rattle.nr.proofs.Scrambling.{length-gold, bits-gold}
 
 -- ---- the information positions: placed, marked and read again
 
+module _ (N : ℕ) (positions : List ℕ) where
+  pub length-marks : length (marks N positions) ≡ N
+  unfolding marks
+  length-marks = length-table (λ p. cond (has p positions) 1 0) 0 N
+
+  pub marks-at : (p : ℕ) → p < N → getD (marks N positions) p 0 ≡ cond (has p positions) 1 0
+  unfolding marks
+  marks-at p h = getD-table (λ p. cond (has p positions) 1 0) N p 0 h
+
 module _ (N : ℕ) (positions bits : List ℕ) where
   pub length-placed : length (placed N positions bits) ≡ N
   unfolding placed
@@ -50,13 +59,9 @@ module _ (N : ℕ) (positions bits : List ℕ) where
   unfolding placed
   bits-placed b = bits-entries (map (λ p. place p positions) (count 0 N)) bits b
 
-  marks-at : (p : ℕ) → p < N → getD (marks N positions) p 0 ≡ cond (has p positions) 1 0
-  unfolding marks
-  marks-at p h = getD-table (λ p. cond (has p positions) 1 0) N p 0 h
-
   -- what is not marked is not an information position, and has 0
   unmarked : (p : ℕ) → p < N → getD (marks N positions) p 0 ≡ 0 → T (not (has p positions))
-  unmarked p h e = go (has p positions) (sym (marks-at p h) ∙ e)
+  unmarked p h e = go (has p positions) (sym (marks-at N positions p h) ∙ e)
     where
       go : (b : Bool) → _≡_ {A = ℕ} (cond b 1 0) 0 → T (not b)
       go true w = let z : ⊥ = omega arith in absurd z
@@ -161,7 +166,7 @@ module _ (k : ℕ) (kind : RateMatching) (positions : List ℕ) (E rnti start : 
         go false e = tt
 
     unchosen : Unchosen (k + 5) (marks N positions) (punctured kind N E)
-    unchosen p h t = marks-at N positions (interleave b) p h ∙ go (has p positions) refl
+    unchosen p h t = marks-at N positions p h ∙ go (has p positions) refl
       where
         left-out : (c : RateMatching) → T (punctured c N E p) → T (has p (unsent c N E))
         left-out Repetition t = absurd t

@@ -8,7 +8,8 @@ use lib.ListN.{length, getD, length-replicate}
 use Rattle.nr.specs.Reliability.{reliability}
 use Rattle.construction.specs.Window.{admits}
 use Rattle.construction.proofs.Ranks.{admitted-below}
-use Rattle.construction.proofs.Choice.{reliability-length, length-marks, Choosing, choosing, more, miss, hit, chose}
+use Rattle.nr.proofs.RoundTrip.{length-marks}
+use Rattle.construction.proofs.Choice.{reliability-length, Choosing, choosing, more, miss, hit, chose}
 use Rattle.construction.proofs.choose.Statement.{statement}
 use Rattle.construction.proofs.choose.Tie as tie
 

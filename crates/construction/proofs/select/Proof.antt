@@ -10,7 +10,7 @@ use lib.Seq.{length-take-le, take-at}
 use Rattle.nr.specs.Reliability.{reliability}
 use Rattle.nr.specs.Construction.{P}
 use Rattle.construction.specs.Window.{ranks, marked, padded}
-use Rattle.construction.proofs.Choice.{length-marks}
+use Rattle.nr.proofs.RoundTrip.{length-marks}
 use Rattle.rows.proofs.Parts.{take-replicate}
 use borrow.Author.Needs.{needs}
 use Rattle.construction.proofs.select.Statement.{statement}
