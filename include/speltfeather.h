@@ -5,7 +5,7 @@
  *
  * Link with libspeltfeather.a. Nothing has to be set up first, and nothing is
  * kept between calls: calls may run in any number of threads at once. A call
- * allocates nothing and calls no function of the C library.
+ * allocates nothing, and of the C library it needs memcpy and memset alone.
  */
 #ifndef SPELTFEATHER_H
 #define SPELTFEATHER_H

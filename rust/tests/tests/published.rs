@@ -59,52 +59,40 @@ fn recorded_message_is_coded() {
     assert_eq!([u[weakest[0]], u[weakest[1]], u[weakest[2]]], [0, 0, 1]);
 }
 
-#[test]
-fn length_864_sends_the_first_352_twice() {
+/// Codes messages of several sizes, whose sent bits must be the 512 bits of y over and over, with y
+/// the reference's code word in sub-block order. Gives how many bits of y each repeat has.
+fn repeats(e: u64) -> Vec<usize> {
     let mut random = Random::new(SEED);
+    let mut lengths = Vec::new();
     for a in [12, 40, 140] {
         let payload = random.bits(a);
         let numbers = Numbers {
             a: a as u64,
-            e: 864,
+            e,
             rnti: 0x4601,
             n_id: 77,
         };
         let sent = sent_bits(numbers, &payload, &mut random);
-        assert_eq!(sent[..352], sent[512..]);
-        let d = code_word_of(&layout(numbers.a, 864).expect("accepted"), &sent, &[0; 512]);
-        assert_eq!(
-            d,
-            reference::code_word(numbers.a, 864, numbers.rnti, &payload)
-        );
+        let (y, repeats) = sent.split_at(512);
+        for piece in repeats.chunks(512) {
+            assert_eq!(*piece, y[..piece.len()], "{numbers:?}");
+        }
+        lengths = repeats.chunks(512).map(<[u8]>::len).collect();
+        let d = code_word_of(&layout(numbers.a, e).expect("accepted"), &sent, &[0; 512]);
+        let expected = reference::code_word(numbers.a, e, numbers.rnti, &payload);
+        assert_eq!(d, expected, "{numbers:?}");
     }
+    lengths
+}
+
+#[test]
+fn length_864_sends_the_first_352_twice() {
+    assert_eq!(repeats(864), [352]);
 }
 
 #[test]
 fn length_1728_sends_the_first_192_four_times_and_the_rest_three_times() {
-    let mut random = Random::new(SEED);
-    for a in [12, 40, 140] {
-        let payload = random.bits(a);
-        let numbers = Numbers {
-            a: a as u64,
-            e: 1728,
-            rnti: 0x4601,
-            n_id: 77,
-        };
-        let sent = sent_bits(numbers, &payload, &mut random);
-        assert_eq!(sent[..512], sent[512..1024]);
-        assert_eq!(sent[..512], sent[1024..1536]);
-        assert_eq!(sent[..192], sent[1536..]);
-        let d = code_word_of(
-            &layout(numbers.a, 1728).expect("accepted"),
-            &sent,
-            &[0; 512],
-        );
-        assert_eq!(
-            d,
-            reference::code_word(numbers.a, 1728, numbers.rnti, &payload)
-        );
-    }
+    assert_eq!(repeats(1728), [512, 512, 192]);
 }
 
 #[test]

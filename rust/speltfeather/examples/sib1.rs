@@ -1,0 +1,45 @@
+//! Codes the DCI that announces SIB1, as document 001 recorded it, and shows a refusal.
+
+use speltfeather::{Numbers, encode};
+
+/// The fields of the recorded message: value and width, most significant bit first.
+const FIELDS: [(u32, u32); 7] = [(168, 9), (0, 4), (0, 1), (5, 5), (0, 2), (0, 1), (0, 15)];
+
+fn payload() -> Vec<u8> {
+    FIELDS
+        .iter()
+        .flat_map(|&(value, width)| (0..width).rev().map(move |i| (value >> i & 1) as u8))
+        .collect()
+}
+
+/// Bits as hexadecimal digits, the first bit highest.
+fn hex(bits: &[u8]) -> String {
+    bits.chunks(4)
+        .map(|four| four.iter().fold(0, |digit, &bit| 2 * digit + bit))
+        .map(|digit| format!("{digit:x}"))
+        .collect()
+}
+
+fn main() {
+    let mut payload = payload();
+    let numbers = Numbers {
+        a: payload.len() as u64,
+        e: 432,
+        rnti: 0xFFFF,
+        n_id: 1,
+    };
+    let mut out = [0; 432];
+
+    println!("{numbers:?}");
+    print!("payload ");
+    payload.iter().for_each(|bit| print!("{bit}"));
+    println!();
+    encode(&numbers, &payload, &mut out).expect("the numbers are accepted");
+    for row in out.chunks(144) {
+        println!("coded   {}", hex(row));
+    }
+
+    payload[5] = 2;
+    let refusal = encode(&numbers, &payload, &mut out).expect_err("a byte above 1");
+    println!("refused {}: {refusal}", refusal.number());
+}
