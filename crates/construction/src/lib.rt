@@ -4,7 +4,7 @@ mod table;
 use nr::RateMatching;
 ghost use mathlib.Core.Path.{_≡_};
 ghost use mathlib.Core.Bool.{true};
-ghost use Prim.Native.Nat.{ℕ, _+_, _-_, _≤_, _<_, _^_};
+ghost use Prim.Native.Nat.{ℕ, _+_, _≤_, _<_, _^_};
 ghost use lib.ListN.{length, replicate};
 ghost use Rattle.nr.specs.Rows.{has, keep, last};
 ghost use Rattle.nr.specs.Numbers.{K};
