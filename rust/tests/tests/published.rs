@@ -4,6 +4,7 @@ use conformance::{Call, Random, sent_bits};
 use reference::{Kind, Layout, construction, layout, published, rate_matching, selected};
 use speltfeather::Numbers;
 
+const RNTI: u16 = 0x4601;
 const SEED: u64 = 0x732;
 const IDENTITIES: [u16; 5] = [0, 1, 0x1234, 0x8000, 0xFFFF];
 
@@ -69,7 +70,7 @@ fn repeats(e: u64) -> Vec<usize> {
         let numbers = Numbers {
             a: a as u64,
             e,
-            rnti: 0x4601,
+            rnti: RNTI,
             n_id: 77,
         };
         let sent = sent_bits(numbers, &payload, &mut random);
@@ -95,46 +96,42 @@ fn length_1728_sends_the_first_192_four_times_and_the_rest_three_times() {
     assert_eq!(repeats(1728), [512, 512, 192]);
 }
 
-#[test]
-fn size_78_at_108_has_128_code_bits() {
+/// Twenty random payloads and the bits that are sent for each.
+fn messages(a: u64, e: u64) -> Vec<(Vec<u8>, Vec<u8>)> {
     let mut random = Random::new(SEED);
-    let code = layout(78, 108).expect("accepted");
-    assert_eq!((code.length(), code.kind), (128, Kind::Shortening));
-    for _ in 0..20 {
-        let payload = random.bits(78);
+    let mut message = || {
+        let payload = random.bits(a as usize);
         let numbers = Numbers {
-            a: 78,
-            e: 108,
-            rnti: 0x4601,
+            a,
+            e,
+            rnti: RNTI,
             n_id: 500,
         };
         let sent = sent_bits(numbers, &payload, &mut random);
+        (payload, sent)
+    };
+    (0..20).map(|_| message()).collect()
+}
+
+#[test]
+fn size_78_at_108_has_128_code_bits() {
+    let code = layout(78, 108).expect("accepted");
+    assert_eq!((code.length(), code.kind), (128, Kind::Shortening));
+    for (payload, sent) in messages(78, 108) {
         let d = code_word_of(&code, &sent, &[0; 128]);
-        assert_eq!(reference::payload_of(&code, &d, 0x4601), Some(payload));
+        assert_eq!(reference::payload_of(&code, &d, RNTI), Some(payload));
     }
 }
 
 #[test]
 fn size_37_at_432_has_512_code_bits() {
-    let mut random = Random::new(SEED);
     let code = layout(37, 432).expect("accepted");
     assert_eq!((code.length(), code.kind), (512, Kind::Puncturing));
-    for _ in 0..20 {
-        let payload = random.bits(37);
-        let numbers = Numbers {
-            a: 37,
-            e: 432,
-            rnti: 0x4601,
-            n_id: 500,
-        };
-        let sent = sent_bits(numbers, &payload, &mut random);
-        assert_ne!(
-            sent[..176],
-            sent[256..],
-            "as if a code of 256 bits were repeated"
-        );
-        let whole = reference::code_word(37, 432, 0x4601, &payload);
+    for (payload, sent) in messages(37, 432) {
+        let repeated_256 = sent[..176] == sent[256..];
+        assert!(!repeated_256, "as if a code of 256 bits were repeated");
+        let whole = reference::code_word(37, 432, RNTI, &payload);
         let d = code_word_of(&code, &sent, &whole);
-        assert_eq!(reference::payload_of(&code, &d, 0x4601), Some(payload));
+        assert_eq!(reference::payload_of(&code, &d, RNTI), Some(payload));
     }
 }
