@@ -18,6 +18,13 @@ Inv-loop payload i₀ i = (i ≤ length payload) × (first badByte payload ≡ i
 abbrev μ-loop : tie.MeasureT-loop
 μ-loop payload i₀ i = length payload - i
 
+loop-again : tie.Need-loop-again Inv-loop μ-loop
+unfolding badByte
+loop-again c =
+    let s = c .before .before .before in
+    let payload = s .before .args .payload .now in
+    (omega arith, omega (arith, s .loop .inv .1, first-miss badByte payload 0 (s .loop .i) (omega arith) (le-ltb 1 _ (c .if1 .left))))
+
 loop-holds : tie.Need-loop-holds Inv-loop μ-loop
 loop-holds c = (omega arith, omega arith)
 
@@ -36,13 +43,6 @@ add-i c = omega arith
 
 loop-less : tie.Need-loop-less Inv-loop μ-loop
 loop-less c = omega arith
-
-loop-again : tie.Need-loop-again Inv-loop μ-loop
-unfolding badByte
-loop-again c =
-    let s = c .before .before .before in
-    let payload = s .before .args .payload .now in
-    (omega arith, omega (arith, s .loop .inv .1, first-miss badByte payload 0 (s .loop .i) (omega arith) (le-ltb 1 _ (c .if1 .left))))
 
 returns-2 : tie.Need-returns-2 Inv-loop μ-loop
 returns-2 c =

@@ -17,6 +17,12 @@ Inv-loop word row₀ i₀ row i = Filling row₀ (msbFirst 24 word) row i
 abbrev μ-loop : tie.MeasureT-loop
 μ-loop word row₀ i₀ row i = 24 - i
 
+loop-again : tie.Need-loop-again Inv-loop μ-loop
+loop-again c =
+    let w = c .before .before .args .word in
+    let i = c .before .loop .i in
+    filling-more (c .before .loop .inv) _ 0 (omega (arith, length-msbFirst 24 w)) (and-one (w / 2 ^ (23 - i)) ∙ sym (getD-msbFirst 24 w i (omega arith)))
+
 loop-holds : tie.Need-loop-holds Inv-loop μ-loop
 loop-holds c = filling _ _ (c .pre ∙ sym (length-msbFirst 24 (c .args .word)))
 
@@ -40,12 +46,6 @@ add-i c = omega arith
 
 loop-less : tie.Need-loop-less Inv-loop μ-loop
 loop-less c = omega arith
-
-loop-again : tie.Need-loop-again Inv-loop μ-loop
-loop-again c =
-    let w = c .before .before .args .word in
-    let i = c .before .loop .i in
-    filling-more (c .before .loop .inv) _ 0 (omega (arith, length-msbFirst 24 w)) (and-one (w / 2 ^ (23 - i)) ∙ sym (getD-msbFirst 24 w i (omega arith)))
 
 same-length : tie.Need-same-length Inv-loop μ-loop
 same-length c = filling-length (c .before .loop .inv)

@@ -12,6 +12,13 @@ use borrow.Author.Needs.{needs}
 use Rattle.rate_matching.proofs.bit_selection.Statement.{statement}
 use Rattle.rate_matching.proofs.bit_selection.Tie as tie
 
+returns-2 : tie.Need-returns-2
+returns-2 c =
+    let s = c .before .before .before .before .before .before .before .before .before in
+    let y = s .args .y .now in
+    let told = c .before .before .before .before .before .enum-told2 .given .1 in
+    c .before .before .copy .ensures ∙ sym (sent-puncturing y _ told (le-of-lt (fitting y _ told (s .pre .1))))
+
 enum-told : tie.Need-enum-told
 enum-told c = search needs
 
@@ -65,13 +72,6 @@ returns c =
 
 same-length-2 : tie.Need-same-length-2
 same-length-2 c = search needs
-
-returns-2 : tie.Need-returns-2
-returns-2 c =
-    let s = c .before .before .before .before .before .before .before .before .before in
-    let y = s .args .y .now in
-    let told = c .before .before .before .before .before .enum-told2 .given .1 in
-    c .before .before .copy .ensures ∙ sym (sent-puncturing y _ told (le-of-lt (fitting y _ told (s .pre .1))))
 
 same-length-3 : tie.Need-same-length-3
 same-length-3 c = search needs

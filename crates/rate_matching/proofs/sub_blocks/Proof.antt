@@ -17,6 +17,15 @@ Inv-loop blocks n d y₀ s i₀ y i = Filling y₀ (subBlocks (2 ^ n) d) y i
 abbrev μ-loop : tie.MeasureT-loop
 μ-loop blocks n d y₀ s i₀ y i = length d - i
 
+loop-again : tie.Need-loop-again Inv-loop μ-loop
+loop-again c =
+    let s = c .before .before .before .before in
+    let i = c .before .before .before .loop .i in
+    let l : i < 2 ^ s .args .n = omega arith in
+    filling-more (c .before .before .before .loop .inv) _ 0 (omega (arith, length-subBlocks (2 ^ s .args .n) (s .args .d .now)))
+    (ap (λ (j : ℕ). getD (s .args .d .now) j 0) (shifted-is (s .args .blocks .now) (s .args .n) i (s .pre .0) (s .pre .1) (s .pre .2) l)
+    ∙ sym (getD-subBlocks (2 ^ s .args .n) (s .args .d .now) i l))
+
 sub-s : tie.Need-sub-s Inv-loop μ-loop
 sub-s c = omega arith
 
@@ -62,15 +71,6 @@ add-i c = omega arith
 
 loop-less : tie.Need-loop-less Inv-loop μ-loop
 loop-less c = omega arith
-
-loop-again : tie.Need-loop-again Inv-loop μ-loop
-loop-again c =
-    let s = c .before .before .before .before in
-    let i = c .before .before .before .loop .i in
-    let l : i < 2 ^ s .args .n = omega arith in
-    filling-more (c .before .before .before .loop .inv) _ 0 (omega (arith, length-subBlocks (2 ^ s .args .n) (s .args .d .now)))
-    (ap (λ (j : ℕ). getD (s .args .d .now) j 0) (shifted-is (s .args .blocks .now) (s .args .n) i (s .pre .0) (s .pre .1) (s .pre .2) l)
-    ∙ sym (getD-subBlocks (2 ^ s .args .n) (s .args .d .now) i l))
 
 same-length : tie.Need-same-length Inv-loop μ-loop
 same-length c = filling-length (c .before .loop .inv)

@@ -7,6 +7,13 @@ use borrow.Author.Needs.{needs}
 use Rattle.speltfeather.proofs.spelt_encode.Statement.{statement}
 use Rattle.speltfeather.proofs.spelt_encode.Tie as tie
 
+returns : tie.Need-returns
+returns c =
+    let x = c .before .before .before in
+    let a = x .before .before .before .before .args in
+    returned (coding (numbers (a .a) (a .e) (a .rnti) (a .n-id)) (a .payload .now) (a .out .now)) (x .encode .result) (x .encode .last .1 .1 .0) (x .encode .ensures)
+    (c .pack .result) (c .pack .ensures)
+
 encode-requires : tie.Need-encode-requires
 encode-requires c κs = search needs
 
@@ -18,13 +25,6 @@ pack-requires c κs =
 
 same-length : tie.Need-same-length
 same-length c = search needs
-
-returns : tie.Need-returns
-returns c =
-    let x = c .before .before .before in
-    let a = x .before .before .before .before .args in
-    returned (coding (numbers (a .a) (a .e) (a .rnti) (a .n-id)) (a .payload .now) (a .out .now)) (x .encode .result) (x .encode .last .1 .1 .0) (x .encode .ensures)
-    (c .pack .result) (c .pack .ensures)
 
 pub spelt-encode-spec : {M : Type 1} → statement M
 spelt-encode-spec = tie.close (tie.spec encode-requires pack-requires same-length returns)
