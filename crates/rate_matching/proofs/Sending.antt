@@ -4,8 +4,8 @@ use Prim.Native.Nat.{ℕ, _+_, _-_, _≤_, _<_}
 use native.Mathlib.Omega.{arith}
 use mathlib.Core.Path.{_≡_, sym, subst, ap, _∙_}
 use mathlib.Core.List.{List, _++_, map}
-use lib.ListN.{length, getD, take, drop, length-append, length-drop}
-use lib.Seq.{take-at, length-take-le, getD-take, getD-drop, ext-getD}
+use lib.ListN.{length, getD, take, drop, length-drop}
+use lib.Seq.{length-take-le, getD-take, getD-drop, ext-getD}
 use Rattle.nr.specs.declared.RateMatching.{RateMatching}
 use Rattle.nr.specs.declared.RateMatching.the-variants.{Repetition, Puncturing, Shortening}
 use Rattle.nr.specs.Rows.{count, entries}
@@ -13,6 +13,7 @@ use Rattle.nr.specs.RateMatching.{subBlocks, selected, select}
 use Rattle.nr.proofs.Rows.{length-picked, getD-picked}
 use Rattle.nr.proofs.Gather.{Fits}
 use Rattle.nr.proofs.Matching.{length-subBlocks}
+use Rattle.rows.proofs.Parts.{front-back, front-room}
 use Rattle.rate_matching.proofs.Pieces.{cycle}
 
 -- E entries from place a on are a part
@@ -61,7 +62,7 @@ module _ (d : List ℕ) {N : ℕ} {a : List ℕ} (is : a ≡ subBlocks N d) (siz
 
   -- it is the front
   pub front : take (length d) (a ++ rest) ≡ subBlocks N d
-  front = take-at a rest (length d) made ∙ is
+  front = front-back a rest (length d) made ∙ is
 
   -- so the front has N entries
   pub front-length : length (take (length d) (a ++ rest)) ≡ N
@@ -69,7 +70,7 @@ module _ (d : List ℕ) {N : ℕ} {a : List ℕ} (is : a ≡ subBlocks N d) (siz
 
   -- and lies in the row
   pub front-le : length d ≤ length (a ++ rest)
-  front-le = rw length-append (omega (arith, made))
+  front-le = front-room a rest (length d) made
 
   -- the sent bits of the code word
   pub selects : (kind : RateMatching) (E : ℕ) → sent (take (length d) (a ++ rest)) E kind ≡ select kind N E d

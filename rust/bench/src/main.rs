@@ -17,25 +17,10 @@ const ROUND: Duration = Duration::from_millis(2);
 type PlainEncode =
     unsafe extern "C" fn(u64, u64, u16, u16, *const u8, usize, *mut u8, usize) -> u64;
 
-/// Declares coders with the signature of the C interface.
-macro_rules! plain_coders {
-    ($($name:ident)*) => {
-        unsafe extern "C" {
-            $(fn $name(
-                a: u64,
-                e: u64,
-                rnti: u16,
-                n_id: u16,
-                payload: *const u8,
-                payload_len: usize,
-                out: *mut u8,
-                out_len: usize,
-            ) -> u64;)*
-        }
-    };
+unsafe extern "C" {
+    static plain_encode_1: PlainEncode;
+    static plain_encode_16: PlainEncode;
 }
-
-plain_coders!(plain_encode_1 plain_encode_16);
 
 type Contestant = fn(&Numbers, &[u8], &mut [u8]);
 
@@ -46,11 +31,13 @@ fn library(numbers: &Numbers, payload: &[u8], out: &mut [u8]) {
 }
 
 fn plain_1(numbers: &Numbers, payload: &[u8], out: &mut [u8]) {
-    plain(plain_encode_1, numbers, payload, out);
+    // SAFETY: a constant of plain.c.
+    plain(unsafe { plain_encode_1 }, numbers, payload, out);
 }
 
 fn plain_16(numbers: &Numbers, payload: &[u8], out: &mut [u8]) {
-    plain(plain_encode_16, numbers, payload, out);
+    // SAFETY: a constant of plain.c.
+    plain(unsafe { plain_encode_16 }, numbers, payload, out);
 }
 
 fn plain(encode: PlainEncode, numbers: &Numbers, payload: &[u8], out: &mut [u8]) {

@@ -1,17 +1,15 @@
 -- `construction::select` meets its contract: its tables are the definitions'.
 -- Assumes nothing.
 use Prim.Native.Nat.{ℕ, _^_, _≤_}
-use native.Mathlib.Omega.{arith}
 use mathlib.Core.Path.{_≡_, refl, sym, subst, ap, _∙_}
 use mathlib.Core.List.{List, _++_}
-use lib.ListN.{length, take, drop, replicate, length-append}
+use lib.ListN.{length, take, drop, replicate}
 use lib.Pow.{pow-mono}
-use lib.Seq.{length-take-le, take-at}
 use Rattle.nr.specs.Reliability.{reliability}
 use Rattle.nr.specs.Construction.{P}
 use Rattle.construction.specs.Window.{ranks, marked, padded}
 use Rattle.nr.proofs.RoundTrip.{length-marks}
-use Rattle.rows.proofs.Parts.{take-replicate}
+use Rattle.rows.proofs.Parts.{take-replicate, front-back, front-room, front-size}
 use borrow.Author.Needs.{needs}
 use Rattle.construction.proofs.select.Statement.{statement}
 use Rattle.construction.proofs.select.Tie as tie
@@ -26,7 +24,7 @@ length-chosen c = ap length (c .choose .ensures) ∙ length-marks (2 ^ c .before
 
 lent : (c : tie.After-choose) → take (c .before .before .before .before .args .len) (c .choose .last .1 .1 .1 .1 .1 .0 ++ drop (c .before .before .before .before .args .len) (replicate 512 0))
     ≡ c .choose .last .1 .1 .1 .1 .1 .0
-lent c = take-at (c .choose .last .1 .1 .1 .1 .1 .0) _ (c .before .before .before .before .args .len) (length-chosen c)
+lent c = front-back (c .choose .last .1 .1 .1 .1 .1 .0) _ (c .before .before .before .before .args .len) (length-chosen c)
 
 slice-aggregate-choose : tie.Need-slice-aggregate-choose
 slice-aggregate-choose c = search needs
@@ -40,7 +38,7 @@ array-borrow-prefix-row c = room (c .before .before)
 slice-aggregate-choose-3 : tie.Need-slice-aggregate-choose-3
 slice-aggregate-choose-3 c =
     let s = c .before .before .before in
-    sym (length-take-le (s .args .len) (replicate 512 0) (omega (arith, room s)))
+    sym (front-size (s .args .len) 512 0 (room s))
 
 choose-requires : tie.Need-choose-requires
 unfolding reliability ranks P
@@ -51,7 +49,7 @@ choose-requires c κs =
 array-share-prefix-row : tie.Need-array-share-prefix-row
 array-share-prefix-row c =
     let k = c .before in
-    simp length-append (omega (arith, length-chosen k))
+    front-room (k .choose .last .1 .1 .1 .1 .1 .0) _ _ (length-chosen k)
 
 slice-aggregate-collect : tie.Need-slice-aggregate-collect
 slice-aggregate-collect c = sym (ap length (lent (c .before .before)) ∙ length-chosen (c .before .before))
