@@ -25,7 +25,7 @@ use Rattle.nr.specs.Demand3.{Accepted, Payload}
 use Rattle.nr.specs.Decoding.{received, orParity, badSoft, decodingFor, decoding}
 use Rattle.nr.proofs.Zip.{bits-take}
 use Rattle.nr.proofs.Construction.{Sized, accepted, positions}
-use Rattle.nr.proofs.Refusals.{Passes, passes-exactly, at-most-six, first-none, before-first, FirstBad, six-first, six-sizes}
+use Rattle.nr.proofs.Refusals.{longest, Passes, passes-exactly, at-most-six, first-none, before-first, FirstBad, six-first, six-sizes}
 use Rattle.nr.proofs.Tests.{is, isn't}
 use Rattle.nr.proofs.RoundTrip.{length-coded, bits-coded, length-received, bits-received}
 
@@ -35,7 +35,7 @@ pub record Untouched (old : List ℕ) (o : Outcome) : Type 0 where
   pub buffer : o .number ≢ 0 → o .buffer ≡ old
   pub place : o .number ≢ 6 → o .place ≡ 0
 
-untouched : (i at : ℕ) (new old : List ℕ) → Untouched old (outcome i at new old)
+pub untouched : (i at : ℕ) (new old : List ℕ) → Untouched old (outcome i at new old)
 unfolding outcome
 untouched zero at new old = record { buffer = λ h. absurd (h refl); place = λ h. refl }
 untouched (suc i) at new old = record { buffer = λ h. refl; place = λ h. rw (ne-eqb (suc i) 6 h) }
@@ -50,12 +50,12 @@ decoding-untouched s soft out = untouched _ _ _ out
 
 -- ---- the number
 
-outcome-number : (i at : ℕ) (new old : List ℕ) → outcome i at new old .number ≡ i
+pub outcome-number : (i at : ℕ) (new old : List ℕ) → outcome i at new old .number ≡ i
 unfolding outcome
 outcome-number zero at new old = refl
 outcome-number (suc i) at new old = refl
 
-outcome-place : (i at : ℕ) (new old : List ℕ) → i ≡ 6 → outcome i at new old .place ≡ at
+pub outcome-place : (i at : ℕ) (new old : List ℕ) → i ≡ 6 → outcome i at new old .place ≡ at
 unfolding outcome
 outcome-place zero at new old e = let z : ⊥ = omega arith in absurd z
 outcome-place (suc i) at new old e = rw (eq-eqb (suc i) 6 e)
@@ -191,19 +191,18 @@ coding-bad s payload out e =
     let six : refusalOf (s .a) (s .e) badByte payload (s .a) out (s .e) ≡ 6 = sym (outcome-number _ _ _ out) ∙ e in
     subst (FirstBad badByte payload 0) (sym (outcome-place _ (first badByte payload) _ out six)) (six-first (s .a) (s .e) badByte payload (s .a) out (s .e) 0 six)
 
--- so that the place is below 140, whatever was handed in
-pub coding-place : (s : Numbers) (payload out : List ℕ) → coding s payload out .place < 140
-coding-place s payload out = go (eqb (o .number) 6) refl
+-- so that a place is small, whatever was handed in
+pub place-below : (o : Outcome) (old : List ℕ) (limit : ℕ) → 0 < limit → Untouched old o → (o .number ≡ 6 → o .place < limit) → o .place < limit
+place-below o old limit l u six = go (eqb (o .number) 6) refl
   where
-    o : Outcome
-    o = coding s payload out
+    go : (b : Bool) → eqb (o .number) 6 ≡ b → o .place < limit
+    go true e = six (eqb-true (o .number) 6 e)
+    go false e = let z : o .place ≡ 0 = u .place (eqb-false (o .number) 6 e) in omega arith
 
-    go : (b : Bool) → eqb (o .number) 6 ≡ b → o .place < 140
-    go true e =
-        let six : o .number ≡ 6 = eqb-true (o .number) 6 e in
-        let sizes = coding-sizes s payload out six in
-        omega (arith, coding-bad s payload out six .inside, sizes .1, accepted (s .a) (s .e) (sizes .0) .high)
-    go false e = let z : o .place ≡ 0 = coding-untouched s payload out .place (eqb-false (o .number) 6 e) in omega arith
+pub coding-place : (s : Numbers) (payload out : List ℕ) → coding s payload out .place < 140
+coding-place s payload out =
+    place-below (coding s payload out) out 140 (omega arith) (coding-untouched s payload out)
+    (λ six. let sizes = coding-sizes s payload out six in omega (arith, coding-bad s payload out six .inside, sizes .1, accepted (s .a) (s .e) (sizes .0) .high))
 
 pub decoding-bad : (s : Numbers) (soft : List ℤ) (out : List ℕ) → decoding s soft out .number ≡ 6 → FirstBad badSoft soft (pos 0) (decoding s soft out .place)
 unfolding decoding decodingFor
@@ -211,6 +210,16 @@ decoding-bad s soft out e =
     let six : orParity (i s soft out) (s .a) (b s soft out) ≡ 6 = sym (outcome-number _ _ _ out) ∙ e in
     subst (FirstBad badSoft soft (pos 0)) (sym (outcome-place _ (first badSoft soft) _ out six))
     (six-first (s .a) (s .e) badSoft soft (s .e) out (s .a) (pos 0) (not-parity (i s soft out) (s .a) (b s soft out) six))
+
+decoding-sizes : (s : Numbers) (soft : List ℤ) (out : List ℕ) → decoding s soft out .number ≡ 6 → (refusal (s .a) (s .e) ≡ 0) × (length soft ≡ s .e)
+unfolding decoding decodingFor
+decoding-sizes s soft out e =
+    six-sizes (s .a) (s .e) badSoft soft (s .e) out (s .a) (not-parity (i s soft out) (s .a) (b s soft out) (sym (outcome-number _ _ _ out) ∙ e))
+
+pub decoding-place : (s : Numbers) (soft : List ℤ) (out : List ℕ) → decoding s soft out .place < 1728
+decoding-place s soft out =
+    place-below (decoding s soft out) out 1728 (omega arith) (decoding-untouched s soft out)
+    (λ six. let sizes = decoding-sizes s soft out six in omega (arith, decoding-bad s soft out six .inside, sizes .1, longest (s .e) (accepted (s .a) (s .e) (sizes .0) .length)))
 
 -- ---- on 0
 

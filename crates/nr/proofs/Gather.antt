@@ -75,7 +75,7 @@ module _ (from : ℕ → ℕ) (i : ℕ) where
       ap₂ (λ (m : ℕ) (y : ℤ). cond (eqb m i) x (pos 0) +ℤ y) (ap from (zero-more k) ∙ e 0 ∙ ap from (sym (zero-more k′)))
       (added-shift (suc k) (suc k′) row (λ j. ap from (sym (shift k j)) ∙ e (suc j) ∙ ap from (shift k′ j)))
 
-plus-at : (a b : List ℤ) (i : ℕ) → getD (plus a b) i (pos 0) ≡ getD a i (pos 0) +ℤ getD b i (pos 0)
+pub plus-at : (a b : List ℤ) (i : ℕ) → getD (plus a b) i (pos 0) ≡ getD a i (pos 0) +ℤ getD b i (pos 0)
 plus-at [] b i = sym (+ℤ-idl (getD b i (pos 0)))
 plus-at (x ∷ a) [] i = sym (+ℤ-idr (getD (x ∷ a) i (pos 0)))
 plus-at (x ∷ a) (y ∷ b) zero = refl

@@ -12,7 +12,7 @@ use Rattle.nr.specs.Rows.{count, has, keep, place, entries, Bits}
 use Rattle.nr.specs.Parity.{generator, divide, remainder}
 use Rattle.nr.specs.Interleaver.{interleaver, pattern, interleave, deinterleave}
 use Rattle.nr.proofs.Tests.{all, distinct, left, right, pair, off, here, there, all-has, all-count}
-use Rattle.nr.proofs.Rows.{kept, keeps, distinct-keep, mapped, source, members, keep-all, ranged, length-count, place-has, length-table, getD-table, length-entries, getD-entries}
+use Rattle.nr.proofs.Rows.{kept, keeps, distinct-keep, mapped, source, members, keep-all, ranged, length-count, place-has, length-picked, getD-picked, length-entries, getD-entries}
 use Rattle.nr.proofs.Zip.{bits-entries}
 
 -- ---- a permutation
@@ -106,31 +106,32 @@ pub bits-interleave : (c : List ℕ) → Bits c → Bits (interleave c)
 unfolding interleave
 bits-interleave c b = bits-entries (pattern (length c)) c b
 
-pub length-deinterleave : (row : List ℕ) → length (deinterleave row) ≡ length row
-unfolding deinterleave
-length-deinterleave row = length-entries (map _ (count 0 (length row))) row ∙ length-table _ 0 (length row)
+module _ (row : List ℕ) where
+  pub length-deinterleave : length (deinterleave row) ≡ length row
+  unfolding deinterleave
+  length-deinterleave = length-picked (λ i. place i (pattern (length row))) (length row) row
+
+  pub deinterleave-at : (i : ℕ) → i < length row → getD (deinterleave row) i 0 ≡ getD row (place i (pattern (length row))) 0
+  unfolding deinterleave
+  deinterleave-at = getD-picked (λ i. place i (pattern (length row))) (length row) row
+
+  pub bits-deinterleave : Bits row → Bits (deinterleave row)
+  unfolding deinterleave
+  bits-deinterleave = bits-entries (map (λ i. place i (pattern (length row))) (count 0 (length row))) row
 
 pub deinterleave-interleave : (c : List ℕ) → length c ≤ 164 → deinterleave (interleave c) ≡ c
-unfolding interleave deinterleave
-deinterleave-interleave c h =
-    ap (λ (k : ℕ). entries (map (λ i. place i (pattern k)) (count 0 k)) (interleave c)) (length-interleave c h)
-    ∙ ext-getD 0 (entries places (interleave c)) c len (λ i l. at i (subst (λ (m : ℕ). i < m) len l))
+unfolding interleave
+deinterleave-interleave c h = ext-getD 0 (deinterleave (interleave c)) c len (λ i l. at i (subst (λ (m : ℕ). i < m) len l))
   where
-    K : ℕ
-    K = length c
+    len : length (deinterleave (interleave c)) ≡ length c
+    len = length-deinterleave (interleave c) ∙ length-interleave c h
 
-    places : List ℕ
-    places = map (λ i. place i (pattern K)) (count 0 K)
-
-    len : length (entries places (interleave c)) ≡ K
-    len = length-entries places (interleave c) ∙ length-table (λ i. place i (pattern K)) 0 K
-
-    at : (i : ℕ) → i < K → getD (entries places (interleave c)) i 0 ≡ getD c i 0
+    at : (i : ℕ) → i < length c → getD (deinterleave (interleave c)) i 0 ≡ getD c i 0
     at i l =
-        let p = place-has i (pattern K) (permutes K h .every i l) in
-        getD-entries places (interleave c) i (subst (λ (m : ℕ). i < m) (sym (length-table (λ i. place i (pattern K)) 0 K)) l)
-        ∙ ap (λ (x : ℕ). getD (interleave c) x 0) (getD-table (λ i. place i (pattern K)) K i 0 l)
-        ∙ getD-entries (pattern K) c (place i (pattern K)) (p .0)
+        let p = place-has i (pattern (length c)) (permutes (length c) h .every i l) in
+        deinterleave-at (interleave c) i (omega (arith, length-interleave c h))
+        ∙ ap (λ (k : ℕ). getD (interleave c) (place i (pattern k)) 0) (length-interleave c h)
+        ∙ getD-entries (pattern (length c)) c (place i (pattern (length c))) (p .0)
         ∙ ap (λ (x : ℕ). getD c x 0) (p .1)
 
 -- ---- the table is what the generator gives

@@ -3,6 +3,7 @@ pub mod Tests
 pub mod Rows
 pub mod Zip
 pub mod Words
+pub mod Ints
 pub mod Sifting
 pub mod Transform
 pub mod SuccessiveDecoder
@@ -11,11 +12,13 @@ pub mod Construction
 pub mod Interleaver
 pub mod Parity
 pub mod Gather
+pub mod SoftRows
 pub mod Matching
 pub mod Scrambling
 pub mod RoundTrip
 pub mod Refusals
 pub mod Demand1
 pub mod Demand3
+pub mod Loopback
 pub mod Kronecker
 pub mod MarkedCases

@@ -18,12 +18,13 @@ use Rattle.nr.specs.Transform.{transform}
 use Rattle.nr.specs.RateMatching.{subBlocks, selected, select}
 use Rattle.nr.specs.SuccessiveDecoder.{negateIf, plus, certain, gather, codeRow}
 use Rattle.nr.proofs.Tests.{holds, is, clash}
-use Rattle.nr.proofs.Rows.{getD-table, length-picked, getD-picked}
+use Rattle.nr.proofs.Rows.{length-picked, getD-picked}
 use Rattle.nr.proofs.Zip.{bits-entries}
 use Rattle.nr.proofs.Transform.{Each, transform-zero}
 use Rattle.nr.proofs.SuccessiveDecoder.{Sign, Soft, Clean}
 use Rattle.nr.proofs.Gather.{Fits, zero-first, gather-adds, gather-punctured, gather-shortened, added-sign}
-use Rattle.nr.proofs.SubBlocks.{rank, rank-lt, J-rank, place-J, found, finds, shortened-up}
+use Rattle.nr.proofs.SubBlocks.{rank, rank-lt, J-rank, found, finds, shortened-up}
+use Rattle.nr.proofs.SoftRows.{codeRow-is, getD-byPosition}
 
 -- ---- the sent bits
 
@@ -76,12 +77,9 @@ module _ (k E : ℕ) (u : List ℕ) (soft : List ℤ) (le : length soft ≡ E) w
   -- the row at position p is what was gathered for it
   codeRow-at : (kind : RateMatching) (p : ℕ) → p < 2 ^ (k + 5)
       → getD (codeRow kind (2 ^ (k + 5)) E soft) p (pos 0) ≡ getD (gather kind (2 ^ (k + 5)) E soft) (rank k p) (pos 0)
-  unfolding codeRow
   codeRow-at kind p h =
       let N : ℕ = 2 ^ (k + 5) in
-      let y : List ℤ = gather kind N E soft in
-      getD-table (λ p. getD y (place p (map (J N) (count 0 N))) (pos 0)) N p (pos 0) h
-      ∙ ap (λ (i : ℕ). getD y i (pos 0)) (place-J k p h)
+      ap (λ (r : List ℤ). getD r p (pos 0)) (codeRow-is kind N E soft) ∙ getD-byPosition k (gather kind N E soft) p h
 
   -- each soft value has the sign of its sent bit
   abbrev pub Sent : RateMatching → Type 0

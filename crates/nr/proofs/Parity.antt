@@ -9,7 +9,7 @@ use mathlib.Core.Logic.{_↔_}
 use mathlib.Core.List.{List, [], _∷_, _++_, zipWith, append-assoc}
 use lib.Dec.{T, eqb}
 use lib.ListN.{length, getD, take, drop, replicate, length-append, length-drop, length-replicate, take-append-drop}
-use lib.Seq.{take-at, drop-at, length-take-le}
+use lib.Seq.{take-at, drop-at, take-append-le, take-take, length-take-le}
 use Rattle.nr.specs.Rows.{msbFirst, xor, xors, count, keep, Bits}
 use Rattle.nr.specs.Parity.{generator, addTimes, divide, remainder, parity, attach, maskRnti, parityMatches}
 use Rattle.nr.proofs.Rows.{same-refl, same-eq}
@@ -335,6 +335,16 @@ module _ (rnti : ℕ) (front back : List ℕ) (size : length back ≡ 16) (bits 
     where
       length-of : {k : ℕ} → k ≡ length front + length back → k - 16 ≡ length front
       length-of e = omega arith
+
+pub maskRnti-front : (rnti A : ℕ) (b : List ℕ) → A + 16 ≤ length b → Bits b → take A (maskRnti rnti b) ≡ take A b
+maskRnti-front rnti A b room bits =
+    ap (λ (r : List ℕ). take A (maskRnti rnti r)) (sym (take-append-drop n b))
+    ∙ ap (take A) (maskRnti-ends rnti (take n b) (drop n b) (length-drop n b ∙ omega arith) (bits-take n b bits))
+    ∙ take-append-le A (take n b) _ (omega (arith, length-take-le n b (omega arith)))
+    ∙ take-take A n b (omega arith)
+  where
+    n : ℕ
+    n = length b - 16
 
 module _ (rnti : ℕ) (b : List ℕ) (room : 16 ≤ length b) where
   abbrev mask : List ℕ

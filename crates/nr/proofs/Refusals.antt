@@ -49,6 +49,15 @@ which E t = elim (cases E 108 (216 ∷ 432 ∷ 864 ∷ 1728 ∷ []) t) [
   ])
 ]
 
+pub longest : (E : ℕ) → T (has E lengths) → E ≤ 1728
+longest E t = elim (which E t) [
+  | inl e ↦ omega arith
+  | inr (inl e) ↦ omega arith
+  | inr (inr (inl e)) ↦ omega arith
+  | inr (inr (inr (inl e))) ↦ omega arith
+  | inr (inr (inr (inr e))) ↦ omega arith
+]
+
 -- none of 1 to 3 applies to these and to no others
 pub accepted-exactly : (A E : ℕ) → (refusal A E ≡ 0) ↔ Pair A E
 unfolding refusal

@@ -7,7 +7,7 @@ use mathlib.Core.Bool.{Bool, true, false, cond, not}
 use mathlib.Core.List.{List, map}
 use lib.Dec.{T, T-not}
 use lib.IntN.{ℤ, pos}
-use lib.ListN.{length, getD, length-map, List·getD-eq-default}
+use lib.ListN.{length, getD, List·getD-eq-default}
 use lib.Seq.{ext-getD}
 use Rattle.nr.specs.declared.RateMatching.{RateMatching}
 use Rattle.nr.specs.declared.RateMatching.the-variants.{Repetition, Puncturing, Shortening}
@@ -18,18 +18,19 @@ use Rattle.nr.specs.Construction.{unsent, Layout}
 use Rattle.nr.specs.Transform.{transform}
 use Rattle.nr.specs.RateMatching.{select}
 use Rattle.nr.specs.Scrambling.{gold}
-use Rattle.nr.specs.SuccessiveDecoder.{negateIf, descramble, codeRow, marks}
+use Rattle.nr.specs.SuccessiveDecoder.{descramble, codeRow, marks}
 use Rattle.nr.specs.Coding.{placed, codeWord, coded}
 use Rattle.nr.specs.Decoding.{decided, received}
 use Rattle.nr.proofs.Tests.{ascending, holds}
-use Rattle.nr.proofs.Rows.{length-count, length-table, getD-table, length-entries, getD-entries, has-getD, place-absent, place-getD, ascending-distinct}
-use Rattle.nr.proofs.Zip.{bits-entries, length-zipWith, getD-zipWith, length-xors, getD-xors, bits-xors}
+use Rattle.nr.proofs.Rows.{length-table, getD-table, length-entries, getD-entries, has-getD, place-absent, place-getD, ascending-distinct}
+use Rattle.nr.proofs.Zip.{bits-entries, length-xors, getD-xors, bits-xors}
 use Rattle.nr.proofs.Parity.{length-attach, bits-attach, length-maskRnti, bits-maskRnti, maskRnti-twice}
 use Rattle.nr.proofs.Interleaver.{length-interleave, bits-interleave, length-deinterleave, deinterleave-interleave}
 use Rattle.nr.proofs.Transform.{Each, Down, bits-transform}
 use Rattle.nr.proofs.Gather.{Fits}
 use Rattle.nr.proofs.SuccessiveDecoder.{Sign, Frozen, Unchosen, noiseless}
 use Rattle.nr.proofs.SubBlocks.{punctured-down}
+use Rattle.nr.proofs.SoftRows.{length-descramble, getD-descramble, length-codeRow}
 use Rattle.nr.proofs.Matching.{punctured, codeRow-clean, descrambled, length-select, bits-select}
 use Rattle.nr.proofs.Scrambling.{length-gold, bits-gold}
 
@@ -145,11 +146,11 @@ module _ (k : ℕ) (kind : RateMatching) (positions : List ℕ) (E rnti start : 
 
     -- after descrambling the values have the signs of the selected bits
     signs′ : (j : ℕ) → j < E → Sign (getD (descramble (gold start E) soft) j (pos 0)) (getD (select kind N E (transform (k + 5) u)) j 0)
-    unfolding descramble coded codeWord
+    unfolding coded codeWord
     signs′ j h =
         let lg : length (gold start E) ≡ E = length-gold start E in
         let ls : length (select kind N E (transform (k + 5) u)) ≡ E = length-select kind N E (transform (k + 5) u) in
-        rw (getD-zipWith negateIf (gold start E) soft j 0 (pos 0) (pos 0) (omega arith) (omega arith))
+        rw (getD-descramble (gold start E) soft (lg ∙ sym length-soft) j (omega arith))
         (descrambled (getD (select kind N E (transform (k + 5) u)) j 0) (getD (gold start E) j 0) (getD soft j (pos 0))
         (bits-select kind N E (transform (k + 5) u) (bits-transform (k + 5) u (bits-placed N positions (interleave b) (bits-interleave b (bits-maskRnti rnti (attach payload))))) j)
         (bits-gold start E j)
@@ -179,7 +180,7 @@ module _ (k : ℕ) (kind : RateMatching) (positions : List ℕ) (E rnti start : 
 
     -- the decided bits are the placed ones
     decides : decided l E start soft ≡ u
-    unfolding decided descramble codeRow unsent
+    unfolding decided unsent
     decides =
         noiseless (k + 5) (marks N positions) u (punctured kind N E) (codeRow kind N E (descramble (gold start E) soft))
         (length-placed N positions (interleave b)) length-row
@@ -188,10 +189,10 @@ module _ (k : ℕ) (kind : RateMatching) (positions : List ℕ) (E rnti start : 
         (codeRow-clean k E u (descramble (gold start E) soft) length-descrambled (length-placed N positions (interleave b)) kind (sound .fits) unused signs′)
       where
         length-descrambled : length (descramble (gold start E) soft) ≡ E
-        length-descrambled = length-zipWith negateIf (gold start E) soft E (length-gold start E) length-soft
+        length-descrambled = length-descramble (gold start E) soft (length-gold start E ∙ sym length-soft) ∙ length-soft
 
         length-row : length (codeRow kind N E (descramble (gold start E) soft)) ≡ N
-        length-row = length-map (count 0 N) _ ∙ length-count 0 N
+        length-row = length-codeRow kind N E (descramble (gold start E) soft)
 
         down : (c : RateMatching) → Down (k + 5) (punctured c N E)
         down Repetition j x z h t = t

@@ -79,15 +79,15 @@ leaf (suc m) false x d z a w = go w
 
 -- ---- rows
 
-length-fs : (n : ℕ) (a b : List ℤ) → length a ≡ n → length b ≡ n → length (fs a b) ≡ n
+pub length-fs : (n : ℕ) (a b : List ℤ) → length a ≡ n → length b ≡ n → length (fs a b) ≡ n
 unfolding fs
 length-fs n a b = length-zipWith f a b n
 
-getD-fs : (a b : List ℤ) (k : ℕ) → k < length a → k < length b → getD (fs a b) k (pos 0) ≡ f (getD a k (pos 0)) (getD b k (pos 0))
+pub getD-fs : (a b : List ℤ) (k : ℕ) → k < length a → k < length b → getD (fs a b) k (pos 0) ≡ f (getD a k (pos 0)) (getD b k (pos 0))
 unfolding fs
 getD-fs a b k l l′ = getD-zipWith f a b k (pos 0) (pos 0) (pos 0) l l′
 
-length-gs : (n : ℕ) (v : List ℕ) (a b : List ℤ) → length v ≡ n → length a ≡ n → length b ≡ n → length (gs v a b) ≡ n
+pub length-gs : (n : ℕ) (v : List ℕ) (a b : List ℤ) → length v ≡ n → length a ≡ n → length b ≡ n → length (gs v a b) ≡ n
 unfolding gs
 length-gs n [] a b e e′ e″ = e
 length-gs n (v ∷ vs) [] b e e′ e″ = e′
@@ -95,7 +95,7 @@ length-gs n (v ∷ vs) (x ∷ a) [] e e′ e″ = e″
 length-gs zero (v ∷ vs) (x ∷ a) (y ∷ b) e e′ e″ = absurd (suc-ne-zero (length a) e′)
 length-gs (suc n) (v ∷ vs) (x ∷ a) (y ∷ b) e e′ e″ = ap suc (length-gs n vs a b (suc-inj e) (suc-inj e′) (suc-inj e″))
 
-getD-gs : (v : List ℕ) (a b : List ℤ) (k : ℕ) → k < length v → k < length a → k < length b
+pub getD-gs : (v : List ℕ) (a b : List ℤ) (k : ℕ) → k < length v → k < length a → k < length b
     → getD (gs v a b) k (pos 0) ≡ g (getD v k 0) (getD a k (pos 0)) (getD b k (pos 0))
 unfolding gs
 getD-gs [] a b k l l′ l″ = absurd (not-suc-le-zero l)

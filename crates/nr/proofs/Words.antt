@@ -3,12 +3,16 @@
 use Prim.Native.Nat.{ℕ, zero, suc, _+_, _-_, _*_, _/_, _%_, _^_, _≤_, _<_}
 use native.Mathlib.Nat.{not-suc-le-zero, le-of-suc-le-suc, lt-of-lt-of-le, div-eq-of-lt, mod-eq-of-lt, one-mul, pow-suc}
 use native.Mathlib.Omega.{arith}
-use mathlib.Core.Path.{_≡_, refl, sym, ap, _∙_}
-use mathlib.Core.List.{[], _∷_, _++_, zipWith}
+use mathlib.Core.Path.{_≡_, refl, sym, subst, ap, _∙_}
+use mathlib.Core.List.{List, [], _∷_, _++_, zipWith}
 use lib.Bits.{differ, bitAnd, bitXor, xor-step, xor-shr, and-mask}
+use lib.Dec.{T, eqb, eqb→eq}
 use lib.ListN.{getD, replicate}
 use lib.Pow.{pow-mono, pow-lt, shr-shr, field, mod-pow-add}
-use Rattle.nr.specs.Rows.{bit, msbFirst, xor, xors}
+use borrow.Author.Tests.{eq-eqb}
+use Rattle.nr.specs.Rows.{same, bit, msbFirst, xor, xors}
+use Rattle.nr.proofs.Tests.{holds, alike}
+use Rattle.nr.proofs.Rows.{same-refl, same-eq}
 use Rattle.nr.proofs.Zip.{cons}
 
 -- ---- exclusive or is addition mod 2 of the bits
@@ -80,13 +84,16 @@ msbFirst-mod (suc j) k x h = cons (bit-mod j k x h) (msbFirst-mod j k x (omega a
 pub shl-one : (k : ℕ) → k < 64 → 1 * 2 ^ k % 2 ^ 64 ≡ 2 ^ k
 shl-one k h = ap (λ (x : ℕ). x % 2 ^ 64) (one-mul (2 ^ k)) ∙ mod-eq-of-lt (pow-lt h)
 
--- the bits of a number shifted up by one
-pub msbFirst-double : (k x : ℕ) → msbFirst (suc k) (x * 2) ≡ msbFirst k x ++ 0 ∷ []
-msbFirst-double zero x = let e : x * 2 / 1 % 2 ≡ 0 = omega arith in ap (λ (b : ℕ). b ∷ []) e
-msbFirst-double (suc k) x =
-    let e : x * 2 / 2 ≡ x = omega arith in
+-- the bits of a number shifted up by one, and a bit in the place that is free
+pub msbFirst-more : (k x b : ℕ) → b ≤ 1 → msbFirst (suc k) (x * 2 + b) ≡ msbFirst k x ++ b ∷ []
+msbFirst-more zero x b h = let e : (x * 2 + b) / 1 % 2 ≡ b = omega arith in ap (λ (c : ℕ). c ∷ []) e
+msbFirst-more (suc k) x b h =
+    let e : (x * 2 + b) / 2 ≡ x = omega arith in
     let s : 1 + k ≡ suc k = omega arith in
-    cons (ap (λ (i : ℕ). bit i (x * 2)) (sym s) ∙ sym (bit-shr k 1 (x * 2)) ∙ ap (bit k) e) (msbFirst-double k x)
+    cons (ap (λ (i : ℕ). bit i (x * 2 + b)) (sym s) ∙ sym (bit-shr k 1 (x * 2 + b)) ∙ ap (bit k) e) (msbFirst-more k x b h)
+
+pub msbFirst-double : (k x : ℕ) → msbFirst (suc k) (x * 2) ≡ msbFirst k x ++ 0 ∷ []
+msbFirst-double k x = let e : x * 2 ≡ x * 2 + 0 = omega arith in ap (msbFirst (suc k)) e ∙ msbFirst-more k x 0 (omega arith)
 
 -- a number of k bits in a row that is j longer
 pub msbFirst-longer : (j k x : ℕ) → x < 2 ^ k → msbFirst (j + k) x ≡ replicate j 0 ++ msbFirst k x
@@ -104,3 +111,14 @@ same-bits (suc k) a b h h′ e =
     (λ i l. bit-shr i 1 a ∙ e (1 + i) (omega arith) ∙ sym (bit-shr i 1 b)) in
     let low : a / 1 % 2 ≡ b / 1 % 2 = e 0 (omega arith) in
     omega arith
+
+-- so two such numbers are equal if their rows of bits hold the same
+pub same-msbFirst : (k a b : ℕ) → a < 2 ^ k → b < 2 ^ k → same (msbFirst k a) (msbFirst k b) ≡ eqb a b
+same-msbFirst k a b h h′ = alike (same (msbFirst k a) (msbFirst k b)) (eqb a b)
+    (λ t. holds (eq-eqb a b (same-bits k a b h h′ (λ i l.
+    let e : k - 1 - (k - 1 - i) ≡ i = omega arith in
+    let m : k - 1 - i < k = omega arith in
+    ap (λ (j : ℕ). bit j a) (sym e) ∙ sym (getD-msbFirst k a (k - 1 - i) m)
+    ∙ ap (λ (r : List ℕ). getD r (k - 1 - i) 0) (same-eq (msbFirst k a) (msbFirst k b) t)
+    ∙ getD-msbFirst k b (k - 1 - i) m ∙ ap (λ (j : ℕ). bit j b) e))))
+    (λ t. subst (λ (x : ℕ). T (same (msbFirst k a) (msbFirst k x))) (eqb→eq a b t) (same-refl (msbFirst k a)))

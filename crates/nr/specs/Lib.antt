@@ -14,3 +14,4 @@ pub mod SuccessiveDecoder
 pub mod Coding
 pub mod Decoding
 pub mod Demand3
+pub mod Loopback

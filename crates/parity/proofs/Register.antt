@@ -1,19 +1,21 @@
 -- The parity register, step by step, is long division; as a number it is what shifts, masks and exclusive or make.
 -- Assumes nothing.
 use Prim.Native.Nat.{ℕ, zero, suc, _+_, _-_, _*_, _/_, _%_, _^_, _≤_, _<_}
-use native.Mathlib.Nat.{suc-inj, suc-ne-zero, not-suc-le-zero, le-of-suc-le-suc, mod-eq-of-lt}
+use native.Mathlib.Nat.{suc-inj, suc-ne-zero, not-suc-le-zero, le-of-suc-le-suc, mod-eq-of-lt, pow-suc}
 use native.Mathlib.Omega.{arith}
-use mathlib.Core.Path.{_≡_, refl, sym, ap, ap₂, _∙_}
+use mathlib.Core.Path.{_≡_, refl, sym, subst, ap, ap₂, _∙_}
 use mathlib.Core.List.{List, [], _∷_, _++_, zipWith, append-nil, append-assoc}
 use lib.Bits.{bitAnd, bitXor, and-le-r, and-mask, mask-lt, xor-zero-r, xor-lt}
-use lib.ListN.{length, getD, take, replicate, length-append, length-replicate, replicate-append-replicate}
+use lib.Dec.{eqb}
+use lib.ListN.{length, getD, take, drop, replicate, take-append-drop, length-append, length-drop, length-replicate, replicate-append-replicate}
 use native.Mathlib.Numerals.{add-one}
-use lib.Seq.{append-snoc, take-suc, take-all}
-use Rattle.nr.specs.Rows.{bit, msbFirst, xor, xors, Bits}
-use Rattle.nr.specs.Parity.{addTimes, divide, generator, parity, attach, maskRnti}
-use Rattle.nr.proofs.Zip.{cons, bits-append, bits-replicate, bits-msbFirst, length-msbFirst, xors-comm, xors-zeros, xors-append}
-use Rattle.nr.proofs.Words.{and-one, msbFirst-xor, msbFirst-mod, msbFirst-double, msbFirst-longer, xor-low}
-use Rattle.nr.proofs.Parity.{low, length-addTimes, bits-addTimes, addTimes-none, addTimes-xors, onesBefore, parity-is, length-parity}
+use lib.Pow.{pow-mono}
+use lib.Seq.{append-snoc, take-suc, take-all, take-at, drop-at, length-take-le}
+use Rattle.nr.specs.Rows.{same, bit, msbFirst, xor, xors, Bits}
+use Rattle.nr.specs.Parity.{addTimes, divide, generator, parity, maskRnti, parityMatches}
+use Rattle.nr.proofs.Zip.{cons, bits-append, bits-take, bits-replicate, bits-msbFirst, length-msbFirst, xors-comm, xors-zeros, xors-append}
+use Rattle.nr.proofs.Words.{and-one, msbFirst-xor, msbFirst-mod, msbFirst-more, msbFirst-double, msbFirst-longer, same-msbFirst, xor-low}
+use Rattle.nr.proofs.Parity.{low, length-addTimes, bits-addTimes, addTimes-none, addTimes-xors, onesBefore, parity-is}
 use Rattle.parity.specs.Register.{taken, Holds}
 
 -- ---- the register is long division
@@ -163,24 +165,74 @@ holds-parity i r payload b l h = record {
   bits = h .bits ∙ ap (takenAll started) (take-all i payload l) ∙ parity-taken payload b;
 }
 
+-- ---- a row read into a word
+
+-- its first i bits
+pub record Read (row : List ℕ) (i word : ℕ) : Type 0 where
+  pub small : word < 2 ^ i
+  pub bits : msbFirst i word ≡ take i row
+
+pub read-none : (row : List ℕ) → Read row 0 0
+read-none row = record { small = omega arith; bits = refl }
+
+module _ {row : List ℕ} {i word : ℕ} (r : Read row i word) (l : i < 24) where
+  pub word-small : word < 2 ^ 23
+  word-small = omega (arith, r .small, pow-mono {i = i} {j = 23} (omega arith))
+
+  -- one more
+  pub read-more : length row ≡ 24 → Bits row → Read row (i + 1) (word * 2 % 2 ^ 32 + getD row i 0)
+  read-more e p =
+      let fits : word * 2 % 2 ^ 32 ≡ word * 2 = omega (arith, word-small) in
+      rw (fits, add-one i) record {
+        small = omega (arith, r .small, p i, pow-suc 2 i);
+        bits = msbFirst-more i word (getD row i 0) (p i) ∙ ap (λ (s : List ℕ). s ++ getD row i 0 ∷ []) (r .bits) ∙ sym (take-suc row i 0 (omega arith));
+      }
+
+pub read-all : {row : List ℕ} {i word : ℕ} → Read row i word → i ≡ 24 → length row ≡ 24 → Holds row word
+read-all {row} {i} {word} r e l = record {
+  small = subst (λ (k : ℕ). word < 2 ^ k) e (r .small);
+  bits = ap (λ (k : ℕ). msbFirst k word) (sym e) ∙ r .bits ∙ take-all i row (omega arith);
+}
+
 -- ---- the RNTI
 
-pub masked : (payload : List ℕ) (p rnti : ℕ) → Bits payload → Holds (parity payload) p → rnti < 2 ^ 16
-    → payload ++ msbFirst 24 (bitXor p rnti) ≡ maskRnti rnti (attach payload)
-unfolding maskRnti attach
-masked payload p rnti b h l = sym (ap (xors (payload ++ parity payload)) mask ∙ joined ∙ ap₂ (λ (x y : List ℕ). x ++ y) (xors-zeros (length payload) payload refl b) ending)
+-- a row whose last 24 bits the word w holds
+pub masked : (front back : List ℕ) (w rnti : ℕ) → Bits front → Holds back w → rnti < 2 ^ 16
+    → front ++ msbFirst 24 (bitXor w rnti) ≡ maskRnti rnti (front ++ back)
+unfolding maskRnti
+masked front back w rnti b h l = sym (ap (xors (front ++ back)) mask ∙ joined ∙ ap₂ (λ (x y : List ℕ). x ++ y) (xors-zeros (length front) front refl b) ending)
   where
-    mask : replicate (length (payload ++ parity payload) - 16) 0 ++ msbFirst 16 rnti ≡ replicate (length payload) 0 ++ msbFirst 24 rnti
+    mask : replicate (length (front ++ back) - 16) 0 ++ msbFirst 16 rnti ≡ replicate (length front) 0 ++ msbFirst 24 rnti
     mask =
-        let e : length (payload ++ parity payload) - 16 ≡ length payload + 8 = rw length-append (omega (arith, length-parity payload)) in
+        let e : length (front ++ back) - 16 ≡ length front + 8 = rw length-append (omega (arith, ap length (h .bits), length-msbFirst 24 w)) in
         ap (λ (k : ℕ). replicate k 0 ++ msbFirst 16 rnti) e
-        ∙ ap (λ (r : List ℕ). r ++ msbFirst 16 rnti) (sym (replicate-append-replicate (length payload) 8 0))
-        ∙ append-assoc (replicate (length payload) 0) (replicate 8 0) (msbFirst 16 rnti)
-        ∙ ap (λ (r : List ℕ). replicate (length payload) 0 ++ r) (sym (msbFirst-longer 8 16 rnti l))
+        ∙ ap (λ (r : List ℕ). r ++ msbFirst 16 rnti) (sym (replicate-append-replicate (length front) 8 0))
+        ∙ append-assoc (replicate (length front) 0) (replicate 8 0) (msbFirst 16 rnti)
+        ∙ ap (λ (r : List ℕ). replicate (length front) 0 ++ r) (sym (msbFirst-longer 8 16 rnti l))
 
-    ending : xors (parity payload) (msbFirst 24 rnti) ≡ msbFirst 24 (bitXor p rnti)
-    ending = ap (λ (r : List ℕ). xors r (msbFirst 24 rnti)) (sym (h .bits)) ∙ sym (msbFirst-xor 24 p rnti)
+    ending : xors back (msbFirst 24 rnti) ≡ msbFirst 24 (bitXor w rnti)
+    ending = ap (λ (r : List ℕ). xors r (msbFirst 24 rnti)) (sym (h .bits)) ∙ sym (msbFirst-xor 24 w rnti)
 
-    joined : xors (payload ++ parity payload) (replicate (length payload) 0 ++ msbFirst 24 rnti)
-        ≡ xors payload (replicate (length payload) 0) ++ xors (parity payload) (msbFirst 24 rnti)
-    joined = xors-append payload (parity payload) (replicate (length payload) 0) (msbFirst 24 rnti) (sym (length-replicate (length payload) 0))
+    joined : xors (front ++ back) (replicate (length front) 0 ++ msbFirst 24 rnti)
+        ≡ xors front (replicate (length front) 0) ++ xors back (msbFirst 24 rnti)
+    joined = xors-append front back (replicate (length front) 0) (msbFirst 24 rnti) (sym (length-replicate (length front) 0))
+
+-- all that follows the first A bits, as it is lent
+pub rest : (A : ℕ) (row : List ℕ) → take (length row - A) (drop A row) ≡ drop A row
+rest A row = take-all (length row - A) (drop A row) (omega (arith, length-drop A row))
+
+-- the parity of the first A bits, and the RNTI taken off what follows them
+pub matched : (A : ℕ) (row : List ℕ) (p w rnti : ℕ) → A ≤ length row → Bits row → Holds (parity (take A row)) p → Holds (drop A row) w → rnti < 2 ^ 16
+    → eqb p (bitXor w rnti) ≡ parityMatches A (maskRnti rnti row)
+unfolding parityMatches
+matched A row p w rnti room bits h h′ l =
+    sym (same-msbFirst 24 p (bitXor w rnti) (h .small) (xor-lt 24 w rnti (h′ .small) (omega arith)))
+    ∙ ap (λ (r : List ℕ). same r ending) (h .bits)
+    ∙ sym (ap₂ (λ (x y : List ℕ). same (parity x) y) (take-at (take A row) ending A size) (drop-at (take A row) ending A size))
+    ∙ ap (parityMatches A) (masked (take A row) (drop A row) w rnti (bits-take A row bits) h′ l ∙ ap (maskRnti rnti) (take-append-drop A row))
+  where
+    ending : List ℕ
+    ending = msbFirst 24 (bitXor w rnti)
+
+    size : length (take A row) ≡ A
+    size = length-take-le A row room

@@ -1,10 +1,10 @@
 // CRC attachment and the RNTI (38.212 7.3.2). The parity register and the RNTI are numbers; shifts and masks take out their
 // bits, most significant first.
 ghost use mathlib.Core.Path.{_≡_};
-ghost use Prim.Native.Nat.{_+_, _<_, _≤_, _^_};
+ghost use Prim.Native.Nat.{_+_, _-_, _<_, _≤_, _^_};
 ghost use lib.ListN.{length};
 ghost use Rattle.nr.specs.Rows.{msbFirst, Bits};
-ghost use Rattle.nr.specs.Parity.{parity, attach, maskRnti};
+ghost use Rattle.nr.specs.Parity.{parity, attach, maskRnti, parityMatches};
 ghost use Rattle.parity.specs.Register.{taken, Holds};
 
 // The generator below D^24.
@@ -56,4 +56,28 @@ pub fn attach(payload: &[u8], rnti: u16, row: &mut [u8])
     let a = payload.len();
     rows::copy(payload, &mut row[..a]);
     write_bits(parity(payload) ^ (rnti as u32), &mut row[a..]);
+}
+
+// The word whose 24 bits a row holds, most significant first.
+fn read_bits(row: &[u8]) -> u32
+    requires { ⌜ (length (now row) ≡ 24) × Bits (now row) ⌝ }
+    ensures { λ r. ⌜ Holds (now (row .entry)) r ⌝ }
+{
+    let mut word = 0;
+    let mut j = 0;
+    while j < 24 {
+        word = (word << 1) + (row[j] as u32);
+        j += 1;
+    }
+    word
+}
+
+// Whether the last 24 bits of a row, once the RNTI is off them, are the parity of the bits before.
+pub fn matches(row: &[u8], rnti: u16) -> bool
+    requires { ⌜ (24 ≤ length (now row)) × Bits (now row) ⌝ }
+    ensures { λ r. ⌜ r ≡ parityMatches (length (now (row .entry)) - 24) (maskRnti rnti (now (row .entry))) ⌝ }
+{
+    let a = row.len() - 24;
+    let last = read_bits(&row[a..]);
+    parity(&row[..a]) == (last ^ (rnti as u32))
 }

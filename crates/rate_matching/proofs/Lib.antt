@@ -2,3 +2,6 @@
 pub mod Shifts
 pub mod Pieces
 pub mod Sending
+pub mod Summing
+pub mod Undoing
+pub mod Moving

@@ -25,6 +25,10 @@ picked-part f a E y h e =
     let m : k < E = subst (λ (n : ℕ). k < n) (length-picked f E y) l in
     getD-picked f E y k m ∙ ap (λ (j : ℕ). getD y j 0) (e k m) ∙ sym (getD-take E (drop a y) k 0 m ∙ getD-drop a y k 0))
 
+-- what is asked of the lengths, at the kind that the match found
+pub fitting : (N E : ℕ) {kind found : RateMatching} → kind ≡ found → Fits kind N E → Fits found N E
+fitting N E e s = subst (λ (k : RateMatching). Fits k N E) e s
+
 module _ (y : List ℕ) (E : ℕ) where
   -- the sent bits
   abbrev pub sent : RateMatching → List ℕ
@@ -48,10 +52,6 @@ module _ (y : List ℕ) (E : ℕ) where
     pub sent-shortening : kind ≡ Shortening → E ≤ length y → sent kind ≡ take E y
     unfolding selected
     sent-shortening e l = ap sent e ∙ picked-part (selected Shortening (length y) E) 0 E y (omega arith) (λ k m. omega arith)
-
-    -- what is asked of the lengths, at the kind that the match found
-    pub fitting : {found : RateMatching} → kind ≡ found → Fits kind (length y) E → Fits found (length y) E
-    fitting e s = subst (λ (k : RateMatching). Fits k (length y) E) e s
 
 -- ---- the code word in sub-block order, at the front of a longer row
 

@@ -1,13 +1,13 @@
 -- Parts of a row that were lent and came back.
 -- Assumes nothing.
-use Prim.Native.Nat.{ℕ, zero, suc, _-_, _≤_}
+use Prim.Native.Nat.{ℕ, zero, suc, _+_, _-_, _≤_, _<_}
 use native.Mathlib.Nat.{not-suc-le-zero, le-of-suc-le-suc}
 use native.Mathlib.Omega.{arith}
 use mathlib.Core.Path.{_≡_, refl, ap, ap₂, _∙_}
 use mathlib.Core.List.{List, _∷_, _++_, append-nil}
 use borrow.Rule.Slice.PartMut.{putMid}
-use lib.ListN.{length, take, drop, replicate, length-append, length-replicate}
-use lib.Seq.{take-at, drop-at, drop-length, length-take-le}
+use lib.ListN.{length, getD, take, drop, replicate, length-append, length-replicate, List·getD-append}
+use lib.Seq.{take-at, drop-at, drop-drop, drop-length, length-take-le, getD-take, getD-drop, getD-append-add}
 
 module _ {A : Type 0} where
   -- the front came back, and then the rest
@@ -24,6 +24,30 @@ module _ {A : Type 0} where
 
   pub front-room : (new rest : List A) (k : ℕ) → length new ≡ k → k ≤ length (new ++ rest)
   front-room new rest k e = rw length-append (omega arith)
+
+  -- what then stands in a part that came back as ys, before it, and behind it
+  module _ (a k : ℕ) (xs ys : List A) (d : A) (inside : a ≤ length xs) (size : length ys ≡ k) where
+    front-is : length (take a xs) ≡ a
+    front-is = length-take-le a xs inside
+
+    pub part-in : (i : ℕ) → i < k → getD (putMid a k xs ys) (a + i) d ≡ getD ys i d
+    part-in i l =
+        let e : a + i ≡ length (take a xs) + i = omega (arith, front-is) in
+        ap (λ (j : ℕ). getD (putMid a k xs ys) j d) e ∙ getD-append-add (take a xs) (ys ++ drop k (drop a xs)) i d
+        ∙ List·getD-append ys (drop k (drop a xs)) d i (omega arith)
+
+    pub part-before : (p : ℕ) → p < a → getD (putMid a k xs ys) p d ≡ getD xs p d
+    part-before p l = List·getD-append (take a xs) (ys ++ drop k (drop a xs)) d p (omega (arith, front-is)) ∙ getD-take a xs p d l
+
+    pub part-behind : (p : ℕ) → a + k ≤ p → getD (putMid a k xs ys) p d ≡ getD xs p d
+    part-behind p l =
+        let e : p ≡ length (take a xs) + (length ys + (p - (a + k))) = omega (arith, front-is) in
+        let e′ : a + k + (p - (a + k)) ≡ p = omega arith in
+        ap (λ (j : ℕ). getD (putMid a k xs ys) j d) e
+        ∙ getD-append-add (take a xs) (ys ++ drop k (drop a xs)) (length ys + (p - (a + k))) d
+        ∙ getD-append-add ys (drop k (drop a xs)) (p - (a + k)) d
+        ∙ ap (λ (r : List A). getD r (p - (a + k)) d) (drop-drop k a xs)
+        ∙ getD-drop (a + k) xs (p - (a + k)) d ∙ ap (λ (j : ℕ). getD xs j d) e′
 
   -- ---- rows made of one value
 

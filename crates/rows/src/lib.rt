@@ -1,4 +1,4 @@
-// What several steps do with a row of bytes.
+// What several steps do with a row of bytes or of soft values.
 ghost use mathlib.Core.Path.{_≡_};
 ghost use lib.ListN.{length};
 
@@ -11,5 +11,18 @@ pub fn copy(from: &[u8], to: &mut [u8])
     while i < from.len() {
         to[i] = from[i];
         i += 1;
+    }
+}
+
+// The same for soft values.
+pub fn copy_soft(from: &[i32], to: &mut [i32])
+    requires { ⌜ length (now to) ≡ length (now from) ⌝ }
+    ensures { λ _. ⌜ now (to .exit) ≡ now (from .entry) ⌝ }
+{
+    let mut k = 0;
+    while k < from.len() {
+        let x = from[k];
+        to[k] = x;
+        k += 1;
     }
 }

@@ -2,3 +2,4 @@
 pub mod Ahead
 pub mod Nibbles
 pub mod Added
+pub mod Negated

@@ -1,9 +1,12 @@
-// Scrambling: the Gold sequence of 38.211 5.2.1 added to a row of bits, 16 terms at a time.
+// Scrambling: the Gold sequence of 38.211 5.2.1 added to a row of bits, 16 terms at a time, and undone in a row of soft values.
 ghost use mathlib.Core.Path.{_≡_};
 ghost use Prim.Native.Nat.{_≤_, _<_, _^_};
+ghost use lib.IntN.{natAbs};
 ghost use lib.ListN.{length};
 ghost use Rattle.nr.specs.Rows.{xors, Bits};
 ghost use Rattle.nr.specs.Scrambling.{step1, step2, after, terms, gold};
+ghost use Rattle.nr.specs.SuccessiveDecoder.{negateIf, descramble};
+ghost use Rattle.nr.proofs.Ints.{Within};
 ghost use Rattle.scrambling.specs.Nibbles.{digits};
 
 // The two 31-bit registers of the sequence: a register's lowest bit is the first to go out.
@@ -93,4 +96,37 @@ pub fn scramble(seed: u32, row: &mut [u8])
         b"0000100001001100001010100110111000011001010111010011101101111111",
         row,
     );
+}
+
+// A soft value, negated where the scrambling bit is 1.
+fn negate_if(x: i32, bit: u8) -> i32
+    requires { ⌜ natAbs x ≤ 127 ⌝ }
+    ensures { λ r. ⌜ r ≡ negateIf bit x ⌝ }
+{
+    if bit == 0 { x } else { -x }
+}
+
+// The same for a row.
+pub fn negate(bits: &[u8], soft: &[i32], out: &mut [i32])
+    requires { ⌜ (length (now bits) ≡ length (now soft)) × (length (now out) ≡ length (now soft)) × Within 127 (now soft) ⌝ }
+    ensures { λ _. ⌜ now (out .exit) ≡ descramble (now (bits .entry)) (now (soft .entry)) ⌝ }
+{
+    let mut k = 0;
+    while k < soft.len() {
+        let x = soft[k];
+        let r = negate_if(x, bits[k]);
+        out[k] = r;
+        k += 1;
+    }
+}
+
+// The soft values of a row that was scrambled from `seed`, as they were sent: the sequence stands in a row of its own.
+pub fn descramble(seed: u32, soft: &[i32], out: &mut [i32])
+    requires { ⌜ (seed < 2 ^ 31) × (length (now out) ≡ length (now soft)) × (length (now soft) ≤ 1728) × Within 127 (now soft) ⌝ }
+    ensures { λ _. ⌜ now (out .exit) ≡ descramble (gold seed (length (now (soft .entry)))) (now (soft .entry)) ⌝ }
+{
+    let len = soft.len();
+    let mut bits = [0u8; 1728];
+    scramble(seed, &mut bits[..len]);
+    negate(&bits[..len], soft, out);
 }

@@ -6,6 +6,7 @@ use mathlib.Core.Path.{sym, ap, ap₂, _∙_}
 use mathlib.Core.List.{List, _++_}
 use lib.ListN.{length}
 use lib.Seq.{length-take-le}
+use Rattle.nr.specs.Parity.{parity, attach}
 use Rattle.rows.proofs.Parts.{two-parts}
 use Rattle.parity.proofs.Register.{masked}
 use borrow.Author.Needs.{needs}
@@ -44,6 +45,7 @@ same-length : tie.Need-same-length
 same-length c = search needs
 
 returns : tie.Need-returns
+unfolding attach
 returns c =
     let w = c .before .before .write-bits in
     let p = c .before .before .before .before .parity in
@@ -52,7 +54,7 @@ returns c =
     let payload = s .args .payload .now in
     two-parts (f .last .1 .0) _ (w .last .1 .0) (length payload) (ap length (f .ensures))
     ∙ ap₂ (λ (x y : List ℕ). x ++ y) (f .ensures) (w .ensures)
-    ∙ masked payload (p .result) (s .args .rnti) (s .pre .1) (p .ensures) (s .fits .rnti .fits)
+    ∙ masked payload (parity payload) (p .result) (s .args .rnti) (s .pre .1) (p .ensures) (s .fits .rnti .fits)
 
 pub attach-spec : {M : Type 1} → statement M
 attach-spec =
