@@ -3,3 +3,4 @@
 pub mod Halves
 pub mod Blocks
 pub mod Stages
+pub mod Placing

@@ -1,11 +1,14 @@
-// The polar transform of a row of bits, in place: stages of growing blocks, each of which adds second halves to first halves.
+// Polar coding of a row of bits: each bit at its information position, then the transform, in place: stages of growing blocks,
+// each of which adds second halves to first halves.
 ghost use mathlib.Core.Path.{_≡_};
 ghost use mathlib.Core.List.{_++_};
 ghost use Prim.Native.Nat.{_*_, _/_, _%_, _^_, _<_};
-ghost use lib.ListN.{length, take, drop};
+ghost use lib.ListN.{length, take, drop, replicate};
 ghost use Rattle.nr.specs.Rows.{xors, Bits};
 ghost use Rattle.nr.specs.Transform.{transform};
+ghost use Rattle.nr.specs.Coding.{placed};
 ghost use Rattle.polar.specs.Blocks.{joined, each};
+ghost use Rattle.polar.specs.Codes.{Positions};
 
 // The code bits of two halves become those of the whole: the second half is added to the first.
 pub fn combine(block: &mut [u8], half: usize)
@@ -47,5 +50,19 @@ pub fn transform(n: usize, row: &mut [u8])
         stage(row, half);
         half = half * 2;
         j += 1;
+    }
+}
+
+// Each bit at its information position, in a row that is 0.
+pub fn place(bits: &[u8], positions: &[u16], u: &mut [u8])
+    requires { ⌜ (length (now bits) ≡ length (now positions)) × Positions (length (now u)) (now positions) ⌝ }
+    requires { ⌜ now u ≡ replicate (length (now u)) 0 ⌝ }
+    ensures { λ _. ⌜ now (u .exit) ≡ placed (length (now (u .entry))) (now (positions .entry)) (now (bits .entry)) ⌝ }
+{
+    let mut i = 0;
+    while i < bits.len() {
+        let p = positions[i] as usize;
+        u[p] = bits[i];
+        i += 1;
     }
 }
