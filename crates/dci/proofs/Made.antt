@@ -18,7 +18,7 @@ use Rattle.construction.specs.declared.Layout.{Layout as Made}
 use Rattle.construction.specs.Window.{Lays}
 use Rattle.construction.proofs.Sizes.{size}
 use Rattle.construction.proofs.Collection.{length-padded}
-use Rattle.dci.specs.Codes.{Positions, code}
+use Rattle.polar.specs.Codes.{Positions, code}
 
 module _ (A E : ℕ) (e : refusal A E ≡ 0) (made : Made) (lays : Lays (layout (K A) E) made) where
   sized : Sized (K A) E
@@ -60,3 +60,6 @@ module _ (A E : ℕ) (e : refusal A E ≡ 0) (made : Made) (lays : Lays (layout 
 
   pub laid : Positions (2 ^ made .n) (take (K A) (made .positions))
   laid = record { few = is-sound .few; rising = is-sound .rising; below = is-sound .below }
+
+  pub short : E ≤ 1728
+  short = size E (sized .length) .length

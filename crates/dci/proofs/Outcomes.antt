@@ -1,6 +1,6 @@
 -- From the answers of the checks to the outcome of a call.
 -- Assumes nothing.
-use Prim.Native.Nat.{ℕ, _≤_, _<_}
+use Prim.Native.Nat.{ℕ, zero, suc, _≤_, _<_}
 use native.Mathlib.Decide.{decLe}
 use native.Mathlib.Nat.{lt-of-not-le}
 use native.Mathlib.Omega.{arith}
@@ -8,10 +8,11 @@ use mathlib.Core.Path.{_≡_, refl, sym, ap, _∙_}
 use mathlib.Core.Bool.{Bool, true, false, not, cond}
 use mathlib.Core.List.{List, [], _∷_}
 use lib.Dec.{eqb, ltb}
-use lib.ListN.{length, getD, List·getD-eq-default}
+use lib.IntN.{ℤ, pos, natAbs}
+use lib.ListN.{length, getD, take, List·getD-eq-default}
 use types.Run.{OneOf, miss}
 use denote.Enum.Declared.{tagOf}
-use borrow.Author.Tests.{lt-ltb, le-ltb, ltb-false}
+use borrow.Author.Tests.{lt-ltb, le-ltb, ltb-false, ne-eqb}
 use Rattle.nr.proofs.Answer.{the-type}
 use Rattle.nr.specs.declared.Numbers.{Numbers}
 use Rattle.nr.specs.declared.Answer.{Answer}
@@ -20,10 +21,13 @@ use Rattle.nr.specs.Rows.{has, first, Bits}
 use Rattle.nr.specs.Numbers.{K}
 use Rattle.nr.specs.Answer.{lengths, firstOf, outside, number, placeOf, refusalOf, outcome, given}
 use Rattle.nr.specs.Construction.{layout}
+use Rattle.nr.specs.Parity.{parityMatches}
 use Rattle.nr.specs.Scrambling.{cInit}
 use Rattle.nr.specs.Coding.{coded, badByte, codingFor, coding}
+use Rattle.nr.specs.Decoding.{received, orParity, badSoft, decodingFor, decoding}
+use Rattle.nr.proofs.Ints.{Within}
 use Rattle.nr.proofs.Refusals.{Passes, passes-exactly, before-first}
-use Rattle.dci.specs.Checks.{sizeRefusal, Says}
+use Rattle.dci.specs.Checks.{sizeRefusal, Says, judged}
 
 -- an answer of the other variants has another number than 0
 pub refused : (r : Answer) → OneOf (1 ∷ 2 ∷ 3 ∷ 4 ∷ 5 ∷ 6 ∷ 7 ∷ []) (tagOf the-type r) → number r ≡ 0 → ⊥
@@ -37,19 +41,33 @@ refused OutputLength t e = omega arith
 refused (BadEntry k) t e = omega arith
 refused ParityMismatch t e = omega arith
 
--- ---- the last test behind five others
+-- ---- the last test behind five others; f is what becomes of the number behind them, and keeps 1 to 6
 
 -- one of the five applies
-module _ (at : ℕ) (new old : List ℕ) where
-  by-size : (a b c d e f : Bool) → (firstOf 1 (a ∷ b ∷ c ∷ d ∷ e ∷ []) ≡ 0 → ⊥)
-      → outcome (firstOf 1 (a ∷ b ∷ c ∷ d ∷ e ∷ f ∷ [])) at new old ≡ record { number = firstOf 1 (a ∷ b ∷ c ∷ d ∷ e ∷ []); place = 0; buffer = old }
+module _ (f : ℕ → ℕ) (keeps : (i : ℕ) → f (suc i) ≡ suc i) (at : ℕ) (new old : List ℕ) where
+  stays : (i : ℕ) → (i ≡ 0 → ⊥) → f i ≡ i
+  stays zero n = absurd (n refl)
+  stays (suc i) n = keeps i
+
+  pub place-0 : (i : ℕ) → (i ≡ 0 → ⊥) → (i ≡ 6 → ⊥) → outcome (f i) at new old ≡ record { number = i; place = 0; buffer = old }
   unfolding outcome
-  by-size true b c d e f n = refl
-  by-size false true c d e f n = refl
-  by-size false false true d e f n = refl
-  by-size false false false true e f n = refl
-  by-size false false false false true f n = refl
-  by-size false false false false false f n = absurd (n refl)
+  place-0 zero n m = absurd (n refl)
+  place-0 (suc i) n m =
+      ap (λ (j : ℕ). outcome j at new old) (keeps i)
+      ∙ ap (λ (b : Bool). record { number = suc i; place = cond b at 0; buffer = old }) (ne-eqb (suc i) 6 m)
+
+  pub place-6 : outcome (f 6) at new old ≡ record { number = 6; place = at; buffer = old }
+  unfolding outcome
+  place-6 = ap (λ (j : ℕ). outcome j at new old) (keeps 5)
+
+five : (a b c d e f : Bool) → (firstOf 1 (a ∷ b ∷ c ∷ d ∷ e ∷ []) ≡ 0 → ⊥)
+    → (firstOf 1 (a ∷ b ∷ c ∷ d ∷ e ∷ f ∷ []) ≡ firstOf 1 (a ∷ b ∷ c ∷ d ∷ e ∷ [])) × (firstOf 1 (a ∷ b ∷ c ∷ d ∷ e ∷ []) ≡ 6 → ⊥)
+five true b c d e f n = (refl, λ w. omega arith)
+five false true c d e f n = (refl, λ w. omega arith)
+five false false true d e f n = (refl, λ w. omega arith)
+five false false false true e f n = (refl, λ w. omega arith)
+five false false false false true f n = (refl, λ w. omega arith)
+five false false false false false f n = absurd (n refl)
 
 -- none does
 by-entry : (a b c d e f : Bool) → firstOf 1 (a ∷ b ∷ c ∷ d ∷ e ∷ []) ≡ 0 → firstOf 1 (a ∷ b ∷ c ∷ d ∷ e ∷ f ∷ []) ≡ cond f 6 0
@@ -60,61 +78,146 @@ by-entry false false false true e f n = let z : ⊥ = omega arith in absurd z
 by-entry false false false false true f n = let z : ⊥ = omega arith in absurd z
 by-entry false false false false false f n = refl
 
--- ---- coding
+-- ---- a call with one input
 
-module _ (s : Numbers) (payload out : List ℕ) where
+module _ {X : Type 0} (bad : X → Bool) (A E : ℕ) (input : List X) (asked : ℕ) (out : List ℕ) (wanted : ℕ) where
   abbrev size : ℕ
-  size = sizeRefusal (s .a) (s .e) (length payload) (s .a) (length out) (s .e)
+  size = sizeRefusal A E (length input) asked (length out) wanted
 
   abbrev whole : ℕ
-  whole = refusalOf (s .a) (s .e) badByte payload (s .a) out (s .e)
+  whole = refusalOf A E bad input asked out wanted
 
+  -- the sizes are refused
+  module _ (f : ℕ → ℕ) (keeps : (i : ℕ) → f (suc i) ≡ suc i) (at : ℕ) (new : List ℕ) where
+    pub size-refused : (r : Answer) → Says size r → (number r ≡ 0 → ⊥) → given r out ≡ outcome (f whole) at new out
+    unfolding given refusalOf
+    size-refused r y n =
+        let t = five (outside A) (not (has E lengths)) (ltb E (K A)) (not (eqb (length input) asked)) (not (eqb (length out) wanted))
+        (ltb (first bad input) (length input)) (λ e. n (y .number ∙ e)) in
+        cc (y .number, y .place, t .0, place-0 f keeps at new out size (λ e. n (y .number ∙ e)) (t .1))
+
+  module _ (r : Answer) (y : Says size r) (e : r ≡ Done) where
+    left : whole ≡ cond (ltb (first bad input) (length input)) 6 0
+    unfolding number refusalOf
+    left =
+        by-entry (outside A) (not (has E lengths)) (ltb E (K A)) (not (eqb (length input) asked)) (not (eqb (length out) wanted))
+        (ltb (first bad input) (length input)) (sym (y .number) ∙ ap number e)
+
+    -- an entry is refused
+    pub entry-refused : (f : ℕ → ℕ) (keeps : (i : ℕ) → f (suc i) ≡ suc i) (new : List ℕ) (k : ℕ) → k ≡ first bad input → k < length input
+        → given (BadEntry k) out ≡ outcome (f whole) (first bad input) new out
+    unfolding given number placeOf
+    entry-refused f keeps new k q l =
+        let m : first bad input < length input = omega arith in
+        let six : whole ≡ 6 = left ∙ ap (λ (b : Bool). cond b 6 0) (lt-ltb (first bad input) (length input) m) in
+        ap (λ (at : ℕ). record { number = 6; place = at; buffer = out }) q
+        ∙ sym (ap (λ (i : ℕ). outcome (f i) (first bad input) new out) six ∙ place-6 f keeps (first bad input) new out)
+
+    -- none is
+    module _ (l : length input ≤ first bad input) where
+      pub none : whole ≡ 0
+      none = left ∙ ap (λ (b : Bool). cond b 6 0) (le-ltb (first bad input) (length input) l)
+
+      pub passes : Passes A E bad input asked out wanted
+      passes = passes-exactly A E bad input asked out wanted .0 none
+
+-- ---- no entry is bad
+
+clean : {X : Type 0} (bad : X → Bool) (xs : List X) (d : X) → bad d ≡ false → length xs ≤ first bad xs → (k : ℕ) → bad (getD xs k d) ≡ false
+clean bad xs d e l k = elim (decLe (length xs) k) [
+  | yes m ↦ ap bad (List·getD-eq-default xs d {n = k} m) ∙ e
+  | no m ↦ before-first bad xs d k (let h = lt-of-not-le m in omega arith)
+]
+
+-- ---- coding
+
+pub payload-bits : (payload : List ℕ) → length payload ≤ first badByte payload → Bits payload
+unfolding badByte
+payload-bits payload l k = ltb-false 1 (getD payload k 0) (clean badByte payload 0 refl l k)
+
+module _ (s : Numbers) (payload out : List ℕ) where
   abbrev row : List ℕ
   row = coded (layout (K (s .a)) (s .e)) (s .e) (s .rnti) (cInit s) payload
 
-  -- the sizes are refused
-  pub size-refused : (r : Answer) → Says size r → (number r ≡ 0 → ⊥) → given r out ≡ coding s payload out
-  unfolding given coding codingFor refusalOf
-  size-refused r y n =
-      cc (
-        y .number,
-        y .place,
-        by-size (first badByte payload) row out (outside (s .a)) (not (has (s .e) lengths)) (ltb (s .e) (K (s .a)))
-            (not (eqb (length payload) (s .a))) (not (eqb (length out) (s .e))) (ltb (first badByte payload) (length payload)) (λ e. n (y .number ∙ e)),
-      )
+  -- coding, by its number
+  coding-is : coding s payload out ≡ outcome (refusalOf (s .a) (s .e) badByte payload (s .a) out (s .e)) (first badByte payload) row out
+  unfolding coding codingFor
+  coding-is = refl
 
-  module _ (r : Answer) (y : Says size r) (e : r ≡ Done) where
-    left : whole ≡ cond (ltb (first badByte payload) (length payload)) 6 0
-    unfolding number refusalOf
-    left =
-        by-entry (outside (s .a)) (not (has (s .e) lengths)) (ltb (s .e) (K (s .a)))
-        (not (eqb (length payload) (s .a))) (not (eqb (length out) (s .e))) (ltb (first badByte payload) (length payload))
-        (sym (y .number) ∙ ap number e)
+  module _ (r : Answer) (y : Says (sizeRefusal (s .a) (s .e) (length payload) (s .a) (length out) (s .e)) r) where
+    pub coding-sizes : (number r ≡ 0 → ⊥) → given r out ≡ coding s payload out
+    coding-sizes n = size-refused badByte (s .a) (s .e) payload (s .a) out (s .e) (λ i. i) (λ i. refl) (first badByte payload) row r y n ∙ sym coding-is
 
-    -- an entry is refused
-    pub entry-refused : (k : ℕ) → k ≡ first badByte payload → k < length payload → given (BadEntry k) out ≡ coding s payload out
-    unfolding given number placeOf coding codingFor outcome
-    entry-refused k q l =
-        let m : first badByte payload < length payload = omega arith in
-        let six : whole ≡ 6 = left ∙ ap (λ (b : Bool). cond b 6 0) (lt-ltb (first badByte payload) (length payload) m) in
-        ap (λ (at : ℕ). outcome 6 at row out) q ∙ ap (λ (i : ℕ). outcome i (first badByte payload) row out) (sym six)
+    module _ (e : r ≡ Done) where
+      pub coding-entry : (k : ℕ) → k ≡ first badByte payload → k < length payload → given (BadEntry k) out ≡ coding s payload out
+      coding-entry k q l = entry-refused badByte (s .a) (s .e) payload (s .a) out (s .e) r y e (λ i. i) (λ i. refl) row k q l ∙ sym coding-is
 
-    module _ (l : length payload ≤ first badByte payload) where
-      none : whole ≡ 0
-      none = left ∙ ap (λ (b : Bool). cond b 6 0) (le-ltb (first badByte payload) (length payload) l)
+      module _ (l : length payload ≤ first badByte payload) where
+        pub coding-passes : Passes (s .a) (s .e) badByte payload (s .a) out (s .e)
+        coding-passes = passes badByte (s .a) (s .e) payload (s .a) out (s .e) r y e l
 
-      pub passes : Passes (s .a) (s .e) badByte payload (s .a) out (s .e)
-      passes = passes-exactly (s .a) (s .e) badByte payload (s .a) out (s .e) .0 none
+        pub coding-done : (new : List ℕ) → new ≡ row → given Done new ≡ coding s payload out
+        unfolding given number placeOf outcome
+        coding-done new q =
+            ap (λ (buffer : List ℕ). outcome 0 (first badByte payload) buffer out) q
+            ∙ ap (λ (i : ℕ). outcome i (first badByte payload) row out) (sym (none badByte (s .a) (s .e) payload (s .a) out (s .e) r y e l)) ∙ sym coding-is
 
-      pub payload-bits : Bits payload
-      unfolding badByte
-      payload-bits k = elim (decLe (length payload) k) [
-        | yes m ↦ rw (List·getD-eq-default payload 0 {n = k} m) (omega arith)
-        | no m ↦ ltb-false 1 (getD payload k 0) (before-first badByte payload 0 k (let h = lt-of-not-le m in omega arith))
-      ]
+-- ---- decoding
 
-      -- nothing is refused
-      pub done : (new : List ℕ) → new ≡ row → given Done new ≡ coding s payload out
-      unfolding given number placeOf coding codingFor outcome
-      done new q =
-          ap (λ (buffer : List ℕ). outcome 0 (first badByte payload) buffer out) q ∙ ap (λ (i : ℕ). outcome i (first badByte payload) row out) (sym none)
+pub soft-within : (soft : List ℤ) → length soft ≤ first badSoft soft → Within 127 soft
+unfolding badSoft
+soft-within soft l k = ltb-false 127 (natAbs (getD soft k (pos 0))) (clean badSoft soft (pos 0) refl l k)
+
+pub parity-keeps : (A : ℕ) (b : List ℕ) (i : ℕ) → orParity (suc i) A b ≡ suc i
+unfolding orParity
+parity-keeps A b i = refl
+
+-- 7 leaves the buffer as it was, 0 leaves the new row in it
+pub unmatched : (t : Bool) (new old : List ℕ) → t ≡ false → given ParityMismatch old ≡ outcome (cond t 0 7) 0 new old
+unfolding given number placeOf outcome
+unmatched t new old e = sym (ap (λ (u : Bool). outcome (cond u 0 7) 0 new old) e)
+
+pub matched : (t : Bool) (row new old : List ℕ) → t ≡ true → row ≡ new → given Done row ≡ outcome (cond t 0 7) 0 new old
+unfolding given number placeOf outcome
+matched t row new old e q = ap (λ (x : List ℕ). outcome 0 0 x old) q ∙ sym (ap (λ (u : Bool). outcome (cond u 0 7) 0 new old) e)
+
+-- neither 0 nor 7 carries a place
+placeless : (A : ℕ) (b new old : List ℕ) (at at′ : ℕ) → outcome (orParity 0 A b) at new old ≡ outcome (orParity 0 A b) at′ new old
+unfolding orParity outcome
+placeless A b new old at at′ = go (parityMatches A b)
+  where
+    go : (t : Bool) → outcome (cond t 0 7) at new old ≡ outcome (cond t 0 7) at′ new old
+    go true = refl
+    go false = refl
+
+module _ (s : Numbers) (soft : List ℤ) (out : List ℕ) where
+  abbrev b : List ℕ
+  b = received (layout (K (s .a)) (s .e)) (s .e) (s .rnti) (cInit s) soft
+
+  -- decoding, by its number
+  decoding-is : decoding s soft out ≡ outcome (orParity (refusalOf (s .a) (s .e) badSoft soft (s .e) out (s .a)) (s .a) b) (first badSoft soft) (take (s .a) b) out
+  unfolding decoding decodingFor
+  decoding-is = refl
+
+  module _ (r : Answer) (y : Says (sizeRefusal (s .a) (s .e) (length soft) (s .e) (length out) (s .a)) r) where
+    pub decoding-sizes : (number r ≡ 0 → ⊥) → given r out ≡ decoding s soft out
+    decoding-sizes n =
+        size-refused badSoft (s .a) (s .e) soft (s .e) out (s .a) (λ i. orParity i (s .a) b) (parity-keeps (s .a) b) (first badSoft soft) (take (s .a) b) r y n
+        ∙ sym decoding-is
+
+    module _ (e : r ≡ Done) where
+      pub decoding-entry : (k : ℕ) → k ≡ first badSoft soft → k < length soft → given (BadEntry k) out ≡ decoding s soft out
+      decoding-entry k q l =
+          entry-refused badSoft (s .a) (s .e) soft (s .e) out (s .a) r y e (λ i. orParity i (s .a) b) (parity-keeps (s .a) b) (take (s .a) b) k q l
+          ∙ sym decoding-is
+
+      module _ (l : length soft ≤ first badSoft soft) where
+        pub decoding-passes : Passes (s .a) (s .e) badSoft soft (s .e) out (s .a)
+        decoding-passes = passes badSoft (s .a) (s .e) soft (s .e) out (s .a) r y e l
+
+        -- the parity decides
+        pub decoding-judged : (r′ : Answer) (new : List ℕ) → given r′ new ≡ judged s soft out → given r′ new ≡ decoding s soft out
+        decoding-judged r′ new q =
+            q ∙ placeless (s .a) b (take (s .a) b) out 0 (first badSoft soft)
+            ∙ ap (λ (i : ℕ). outcome (orParity i (s .a) b) (first badSoft soft) (take (s .a) b) out) (sym (none badSoft (s .a) (s .e) soft (s .e) out (s .a) r y e l))
+            ∙ sym decoding-is

@@ -1,22 +1,24 @@
-// The downlink control message, coded: from payload bits to E scrambled bits.
+// The downlink control message: from payload bits to E scrambled bits, and from E soft values back to the payload.
 use nr::Answer;
 use nr::Numbers;
 use nr::RateMatching;
 ghost use mathlib.Core.Path.{_≡_};
-ghost use Prim.Native.Nat.{_+_, _≤_, _<_, _^_};
-ghost use lib.ListN.{length, replicate};
-ghost use Rattle.nr.specs.Rows.{first, has, Bits};
+ghost use mathlib.Core.Bool.{cond};
+ghost use Prim.Native.Nat.{_≤_};
+ghost use lib.ListN.{length};
+ghost use Rattle.nr.specs.Rows.{first, has, entries, Bits};
 ghost use Rattle.nr.specs.Numbers.{K};
-ghost use Rattle.nr.specs.Answer.{lengths, refusal, given};
-ghost use Rattle.nr.specs.Parity.{attach, maskRnti};
-ghost use Rattle.nr.specs.Interleaver.{interleave};
+ghost use Rattle.nr.specs.Answer.{lengths, refusal, outcome, given};
 ghost use Rattle.nr.specs.Construction.{layout};
-ghost use Rattle.nr.specs.Transform.{transform};
+ghost use Rattle.nr.specs.Interleaver.{deinterleave};
 ghost use Rattle.nr.specs.Scrambling.{cInit};
-ghost use Rattle.nr.specs.Coding.{placed, coded, badByte, coding};
-ghost use Rattle.nr.proofs.Gather.{Fits};
-ghost use Rattle.dci.specs.Checks.{sizeRefusal, Says};
-ghost use Rattle.dci.specs.Codes.{Positions, code};
+ghost use Rattle.nr.specs.Coding.{coded, badByte, coding};
+ghost use Rattle.nr.specs.Decoding.{decided, decoding};
+ghost use Rattle.nr.specs.Loopback.{looped};
+ghost use Rattle.nr.proofs.Ints.{Within};
+ghost use Rattle.nr.proofs.Loopback.{Loops};
+ghost use Rattle.dci.specs.Checks.{sizeRefusal, Says, beyond, judged};
+ghost use Rattle.dci.specs.Loops.{signed, found};
 
 // Whether E is one of the coded lengths.
 fn is_coded_length(e: u64) -> bool
@@ -67,63 +69,22 @@ fn first_bad(payload: &[u8]) -> usize
     i
 }
 
-// Each bit at its information position, in a row that is 0.
-fn place(bits: &[u8], positions: &[u16], u: &mut [u8])
-    requires { ⌜ (length (now bits) ≡ length (now positions)) × Positions (length (now u)) (now positions) ⌝ }
-    requires { ⌜ now u ≡ replicate (length (now u)) 0 ⌝ }
-    ensures { λ _. ⌜ now (u .exit) ≡ placed (length (now (u .entry))) (now (positions .entry)) (now (bits .entry)) ⌝ }
+// The place of the first value below `low` or above `high`, or the row's length.
+fn first_outside(row: &[i32], low: i32, high: i32) -> usize
+    ensures { λ r. ⌜ r ≡ first (beyond low high) (now (row .entry)) ⌝ }
 {
     let mut i = 0;
-    while i < bits.len() {
-        let p = positions[i] as usize;
-        u[p] = bits[i];
+    while i < row.len() {
+        let x = row[i];
+        if x < low {
+            return i;
+        }
+        if high < x {
+            return i;
+        }
         i += 1;
     }
-}
-
-// The bits for the information positions: the payload with its parity, the RNTI added, interleaved.
-fn information_bits(payload: &[u8], rnti: u16, bits: &mut [u8])
-    requires { ⌜ (length (now bits) ≡ length (now payload) + 24) × (length (now bits) ≤ 164) × Bits (now payload) ⌝ }
-    ensures { λ _. ⌜ now (bits .exit) ≡ interleave (maskRnti rnti (attach (now (payload .entry)))) ⌝ }
-{
-    let k = bits.len();
-    let mut row = [0u8; 164];
-    parity::attach(payload, rnti, &mut row[..k]);
-    interleaver::interleave(&row[..k], bits);
-}
-
-// The code word of a payload, in a row of N = 2^n that is 0.
-fn code_word(n: usize, positions: &[u16], rnti: u16, payload: &[u8], d: &mut [u8])
-    requires { ⌜ (length (now positions) ≡ length (now payload) + 24) × Positions (2 ^ n) (now positions) × Bits (now payload) ⌝ }
-    requires { ⌜ now d ≡ replicate (2 ^ n) 0 ⌝ }
-    ensures { λ _. ⌜ now (d .exit) ≡ transform n (placed (2 ^ n) (now (positions .entry)) (interleave (maskRnti rnti (attach (now (payload .entry)))))) ⌝ }
-{
-    let k = positions.len();
-    let mut bits = [0u8; 164];
-    information_bits(payload, rnti, &mut bits[..k]);
-    place(&bits[..k], positions, d);
-    polar::transform(n, d);
-}
-
-// The scrambled bits of a payload, as many as the output holds, for a code that is given by n, the kind and the positions.
-fn send(
-    n: usize,
-    kind: RateMatching,
-    positions: &[u16],
-    rnti: u16,
-    start: u32,
-    payload: &[u8],
-    out: &mut [u8],
-)
-    requires { ⌜ (5 ≤ n) × (n ≤ 9) × Fits kind (2 ^ n) (length (now out)) × (start < 2 ^ 31) ⌝ }
-    requires { ⌜ (length (now positions) ≡ length (now payload) + 24) × Positions (2 ^ n) (now positions) × Bits (now payload) ⌝ }
-    ensures { λ _. ⌜ now (out .exit) ≡ coded (code n kind (now (positions .entry))) (length (now (out .entry))) rnti start (now (payload .entry)) ⌝ }
-{
-    let len = 1 << n;
-    let mut d = [0u8; 512];
-    code_word(n, positions, rnti, payload, &mut d[..len]);
-    rate_matching::select(kind, n, &d[..len], out);
-    scrambling::scramble(start, out);
+    i
 }
 
 // The E scrambled bits of a payload of A bits.
@@ -138,7 +99,7 @@ fn write(numbers: Numbers, payload: &[u8], out: &mut [u8])
     let k = payload.len() + 24;
     let rnti = numbers.rnti;
     let start = numbers.n_id as u32;
-    send(n, kind, &positions[..k], rnti, start, payload, out);
+    sender::send(n, kind, &positions[..k], rnti, start, payload, out);
 }
 
 // Codes a payload of A bits into E bits, or answers with the first number of 1 to 6 that applies and leaves the output as it is.
@@ -157,4 +118,119 @@ pub fn encode(numbers: Numbers, payload: &[u8], out: &mut [u8]) -> Answer
     }
     write(numbers, payload, out);
     Answer::Done
+}
+
+// What decoding gives back.
+pub struct Decoded {
+    pub answer: Answer,
+}
+
+// The row of payload and parity that E soft values give, the RNTI still on it.
+fn read(numbers: Numbers, soft: &[i32], row: &mut [u8])
+    requires { ⌜ (refusal (numbers .a) (numbers .e) ≡ 0) × (length (now soft) ≡ numbers .e) × (length (now row) ≡ K (numbers .a)) × Within 127 (now soft) ⌝ }
+    ensures { λ _. ⌜ now (row .exit) ≡ deinterleave (entries (layout (K (numbers .a)) (numbers .e) .positions) (decided (layout (K (numbers .a)) (numbers .e)) (numbers .e) (cInit numbers) (now (soft .entry)))) ⌝ }
+{
+    let l = construction::construct(numbers.a, numbers.e);
+    let n = l.n;
+    let kind = l.kind;
+    let positions = l.positions;
+    let k = row.len();
+    let start = numbers.n_id as u32;
+    receiver::receive(n, kind, &positions[..k], start, soft, row);
+}
+
+// The payload with 0 where the parity matched; else 7, and the output stays as it is.
+fn give(matched: bool, payload: &[u8], out: &mut [u8]) -> Answer
+    requires { ⌜ length (now out) ≡ length (now payload) ⌝ }
+    ensures { λ r. ⌜ given r (now (out .exit)) ≡ outcome (cond matched 0 7) 0 (now (payload .entry)) (now (out .entry)) ⌝ }
+{
+    if !matched {
+        return Answer::ParityMismatch;
+    }
+    rows::copy(payload, out);
+    Answer::Done
+}
+
+// The payload that the soft values hold, if its parity matches.
+fn accept(numbers: Numbers, soft: &[i32], out: &mut [u8]) -> Answer
+    requires { ⌜ (refusal (numbers .a) (numbers .e) ≡ 0) × (length (now soft) ≡ numbers .e) × (length (now out) ≡ numbers .a) × Within 127 (now soft) ⌝ }
+    ensures { λ r. ⌜ given r (now (out .exit)) ≡ judged numbers (now (soft .entry)) (now (out .entry)) ⌝ }
+{
+    let size = out.len();
+    let k = size + 24;
+    let mut row = [0u8; 164];
+    read(numbers, soft, &mut row[..k]);
+    let matched = parity::matches(&row[..k], numbers.rnti);
+    give(matched, &row[..size], out)
+}
+
+// Decodes E soft values into a payload of A bits, or answers with the first number of 1 to 7 that applies and leaves the output
+// as it is.
+pub fn decode(numbers: Numbers, soft: &[i32], out: &mut [u8]) -> Decoded
+    ensures { λ r. ⌜ given (r .answer) (now (out .exit)) ≡ decoding numbers (now (soft .entry)) (now (out .entry)) ⌝ }
+{
+    let a = numbers.a;
+    let e = numbers.e;
+    let answer = check_sizes(a, e, soft.len(), e, out.len(), a);
+    let Answer::Done = answer else {
+        return Decoded { answer };
+    };
+    let bad = first_outside(soft, -127, 127);
+    if bad < soft.len() {
+        return Decoded {
+            answer: Answer::BadEntry(bad),
+        };
+    }
+    let answer = accept(numbers, soft, out);
+    Decoded { answer }
+}
+
+// A noiseless row for the payload: each coded bit with its sign and the caller's strength.
+fn sign(numbers: Numbers, payload: &[u8], strengths: &[i32], soft: &mut [i32])
+    requires { ⌜ (length (now strengths) ≡ numbers .e) × (length (now soft) ≡ numbers .e) × (numbers .e ≤ 1728) × Within 127 (now strengths) ⌝ }
+    ensures { λ _. ⌜ now (soft .exit) ≡ signed numbers (now (payload .entry)) (now (strengths .entry)) ⌝ }
+{
+    let e = strengths.len();
+    let mut sent = [0u8; 1728];
+    encode(numbers, payload, &mut sent[..e]);
+    scrambling::negate(&sent[..e], strengths, soft);
+}
+
+// Codes the payload and decodes its noiseless row: demand 3, run.
+fn through(numbers: Numbers, payload: &[u8], strengths: &[i32], out: &mut [u8]) -> Answer
+    requires { ⌜ Loops numbers (now payload) (now strengths) (now out) ⌝ }
+    ensures { λ r. ⌜ given r (now (out .exit)) ≡ found (now (payload .entry)) ⌝ }
+{
+    let e = strengths.len();
+    let mut soft = [0i32; 1728];
+    sign(numbers, payload, strengths, &mut soft[..e]);
+    let decoded = decode(numbers, &soft[..e], out);
+    decoded.answer
+}
+
+// The self-test: codes the payload, gives each coded bit its sign and the caller's strength, and decodes that row. It answers 0
+// with the payload in the output, or the first number of 1 to 6 that applies. Entries are counted through the payload and then
+// the strengths, which are 1 to 127.
+pub fn loopback(numbers: Numbers, payload: &[u8], strengths: &[i32], out: &mut [u8]) -> Answer
+    ensures { λ r. ⌜ given r (now (out .exit)) ≡ looped numbers (now (payload .entry)) (now (strengths .entry)) (now (out .entry)) ⌝ }
+{
+    let a = numbers.a;
+    let e = numbers.e;
+    let first = check_sizes(a, e, payload.len(), a, 0, 0);
+    let Answer::Done = first else {
+        return first;
+    };
+    let second = check_sizes(a, e, strengths.len(), e, out.len(), a);
+    let Answer::Done = second else {
+        return second;
+    };
+    let byte = first_bad(payload);
+    if byte < payload.len() {
+        return Answer::BadEntry(byte);
+    }
+    let strength = first_outside(strengths, 1, 127);
+    if strength < strengths.len() {
+        return Answer::BadEntry(payload.len() + strength);
+    }
+    through(numbers, payload, strengths, out)
 }

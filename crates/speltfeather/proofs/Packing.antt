@@ -4,11 +4,8 @@ use Prim.Native.Nat.{ℕ, _+_, _*_, _^_, _<_}
 use native.Mathlib.Omega.{arith}
 use mathlib.Core.Path.{_≡_, ap, _∙_}
 use mathlib.Core.List.{List}
-use Rattle.nr.specs.declared.Numbers.{Numbers}
 use Rattle.nr.specs.declared.Answer.{Answer}
 use Rattle.nr.specs.Answer.{number, placeOf, Outcome, given}
-use Rattle.nr.specs.Coding.{coding}
-use Rattle.nr.proofs.Demand1.{coding-place}
 use Rattle.speltfeather.specs.Packed.{Returns}
 
 -- the number plus 256 times the place
@@ -24,6 +21,6 @@ module _ (o : Outcome) (r : Answer) (buffer : List ℕ) (e : given r buffer ≡ 
   unfolding given
   carried = ap (λ (o : Outcome). o .place) e
 
--- the place that a coding call answers with is small
-pub small : (s : Numbers) (payload out : List ℕ) (r : Answer) (buffer : List ℕ) → given r buffer ≡ coding s payload out → placeOf r < 2 ^ 32
-small s payload out r buffer e = omega (arith, carried (coding s payload out) r buffer e, coding-place s payload out)
+  -- the place that a call answers with is small
+  pub small : o .place < 4096 → placeOf r < 2 ^ 32
+  small l = omega (arith, carried)

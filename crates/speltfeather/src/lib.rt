@@ -5,6 +5,8 @@ ghost use mathlib.Core.Path.{_≡_};
 ghost use Prim.Native.Nat.{_+_, _*_, _<_, _^_};
 ghost use Rattle.nr.specs.Answer.{number, placeOf};
 ghost use Rattle.nr.specs.Coding.{coding};
+ghost use Rattle.nr.specs.Decoding.{decoding};
+ghost use Rattle.nr.specs.Loopback.{looped};
 ghost use Rattle.speltfeather.specs.Packed.{numbers, Returns};
 
 // An answer as one number: its own plus 256 times the place that it carries.
@@ -37,5 +39,39 @@ pub extern "C" fn spelt_encode(
     ensures { λ r. ⌜ Returns (coding (numbers a e rnti «n_id») (now (payload .entry)) (now (out .entry))) r (now (out .exit)) ⌝ }
 {
     let answer = dci::encode(Numbers { a, e, rnti, n_id }, payload, out);
+    pack(answer)
+}
+
+// Decodes soft values: `dci::decode`.
+#[no_mangle]
+pub extern "C" fn spelt_decode(
+    a: u64,
+    e: u64,
+    rnti: u16,
+    n_id: u16,
+    soft: &[i32],
+    out: &mut [u8],
+) -> u64
+    ensures { λ r. ⌜ Returns (decoding (numbers a e rnti «n_id») (now (soft .entry)) (now (out .entry))) r (now (out .exit)) ⌝ }
+{
+    let decoded = dci::decode(Numbers { a, e, rnti, n_id }, soft, out);
+    let answer = decoded.answer;
+    pack(answer)
+}
+
+// The self-test: `dci::loopback`.
+#[no_mangle]
+pub extern "C" fn spelt_loopback(
+    a: u64,
+    e: u64,
+    rnti: u16,
+    n_id: u16,
+    payload: &[u8],
+    strengths: &[i32],
+    out: &mut [u8],
+) -> u64
+    ensures { λ r. ⌜ Returns (looped (numbers a e rnti «n_id») (now (payload .entry)) (now (strengths .entry)) (now (out .entry))) r (now (out .exit)) ⌝ }
+{
+    let answer = dci::loopback(Numbers { a, e, rnti, n_id }, payload, strengths, out);
     pack(answer)
 }

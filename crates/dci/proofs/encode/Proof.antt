@@ -5,7 +5,7 @@ use Prim.Native.Nat.{_≤_}
 use lib.ListN.{length}
 use Rattle.nr.specs.Rows.{first}
 use Rattle.nr.specs.Coding.{badByte}
-use Rattle.dci.proofs.Outcomes.{refused, size-refused, entry-refused, passes, payload-bits, done}
+use Rattle.dci.proofs.Outcomes.{refused, coding-sizes, coding-entry, coding-passes, coding-done, payload-bits}
 use borrow.Author.Needs.{needs}
 use Rattle.dci.proofs.encode.Statement.{statement}
 use Rattle.dci.proofs.encode.Tie as tie
@@ -24,7 +24,7 @@ returns : tie.Need-returns
 returns c =
     let k = c .before in
     let a = k .before .before .before .args in
-    size-refused (a .numbers) (a .payload .now) (a .out .now) (k .check-sizes .result) (k .check-sizes .ensures) (refused (k .check-sizes .result) (c .match .keys2))
+    coding-sizes (a .numbers) (a .payload .now) (a .out .now) (k .check-sizes .result) (k .check-sizes .ensures) (refused (k .check-sizes .result) (c .match .keys2))
 
 first-bad-requires : tie.Need-first-bad-requires
 first-bad-requires c κs = search needs
@@ -34,7 +34,7 @@ returns-2 c =
     let f = c .before in
     let k = f .before .before .before in
     let a = k .before .before .before .args in
-    entry-refused (a .numbers) (a .payload .now) (a .out .now) (k .check-sizes .result) (k .check-sizes .ensures) (f .before .enum-told .given .1)
+    coding-entry (a .numbers) (a .payload .now) (a .out .now) (k .check-sizes .result) (k .check-sizes .ensures) (f .before .enum-told .given .1)
     (f .first-bad .result) (f .first-bad .ensures) (c .if1 .taken)
 
 write-requires : tie.Need-write-requires
@@ -42,11 +42,11 @@ write-requires c κs =
     let f = c .before .before in
     let k = f .before .before .before in
     let a = k .before .before .before .args in
-    let p = passes (a .numbers) (a .payload .now) (a .out .now) (k .check-sizes .result) (k .check-sizes .ensures) (f .before .enum-told .given .1) (clean (c .before)) in (
+    let p = coding-passes (a .numbers) (a .payload .now) (a .out .now) (k .check-sizes .result) (k .check-sizes .ensures) (f .before .enum-told .given .1) (clean (c .before)) in (
       p .pair,
       p .input-length,
       p .output-length,
-      payload-bits (a .numbers) (a .payload .now) (a .out .now) (k .check-sizes .result) (k .check-sizes .ensures) (f .before .enum-told .given .1) (clean (c .before)),
+      payload-bits (a .payload .now) (clean (c .before)),
     )
 
 same-length : tie.Need-same-length
@@ -58,7 +58,7 @@ returns-3 c =
     let f = v .before .before .before in
     let k = f .before .before .before in
     let a = k .before .before .before .args in
-    done (a .numbers) (a .payload .now) (a .out .now) (k .check-sizes .result) (k .check-sizes .ensures) (f .before .enum-told .given .1) (clean (v .before .before))
+    coding-done (a .numbers) (a .payload .now) (a .out .now) (k .check-sizes .result) (k .check-sizes .ensures) (f .before .enum-told .given .1) (clean (v .before .before))
     (v .write .last .1 .1 .0) (v .write .ensures)
 
 pub encode-spec : {M : Type 1} → statement M

@@ -3,7 +3,7 @@
 use Prim.Native.Nat.{ℕ, _+_, _-_, _≤_}
 use native.Mathlib.Omega.{arith}
 use mathlib.Core.Path.{_≡_, ap}
-use lib.ListN.{length, drop}
+use lib.ListN.{length, getD, drop}
 use lib.Seq.{drop-length}
 use borrow.Author.Tests.{lt-ltb, le-ltb}
 use Rattle.nr.specs.Rows.{first}
@@ -23,7 +23,7 @@ unfolding badByte
 loop-again c =
     let s = c .before .before .before in
     let payload = s .before .args .payload .now in
-    (omega arith, omega (arith, s .loop .inv .1, first-miss badByte payload 0 (s .loop .i) (omega arith) (le-ltb 1 _ (c .if1 .left))))
+    (omega arith, omega (arith, s .loop .inv .1, first-miss badByte payload 0 (s .loop .i) (omega arith) (le-ltb 1 (getD payload (s .loop .i) 0) (omega (arith, c .if1 .left)))))
 
 loop-holds : tie.Need-loop-holds Inv-loop μ-loop
 loop-holds c = (omega arith, omega arith)

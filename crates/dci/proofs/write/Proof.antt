@@ -7,7 +7,7 @@ use lib.ListN.{length, take}
 use Rattle.nr.specs.Numbers.{K}
 use Rattle.nr.specs.Construction.{Layout, layout}
 use Rattle.nr.specs.Coding.{coded}
-use Rattle.dci.specs.Codes.{code}
+use Rattle.polar.specs.Codes.{code}
 use Rattle.dci.proofs.Made.{code-is, enough, exact, low, high, fits, laid}
 use borrow.Author.Needs.{needs}
 use Rattle.dci.proofs.write.Statement.{statement}

@@ -1,6 +1,8 @@
 -- `speltfeather::spelt_encode` meets its contract.
 -- Assumes nothing.
+use native.Mathlib.Omega.{arith}
 use Rattle.nr.specs.Coding.{coding}
+use Rattle.nr.proofs.Demand1.{coding-place}
 use Rattle.speltfeather.specs.Packed.{numbers}
 use Rattle.speltfeather.proofs.Packing.{returned, small}
 use borrow.Author.Needs.{needs}
@@ -21,7 +23,9 @@ pack-requires : tie.Need-pack-requires
 pack-requires c κs =
     let x = c .before .before in
     let a = x .before .before .before .before .args in
-    small (numbers (a .a) (a .e) (a .rnti) (a .n-id)) (a .payload .now) (a .out .now) (x .encode .result) (x .encode .last .1 .1 .0) (x .encode .ensures)
+    let o = coding (numbers (a .a) (a .e) (a .rnti) (a .n-id)) (a .payload .now) (a .out .now) in
+    small o (x .encode .result) (x .encode .last .1 .1 .0) (x .encode .ensures)
+    (omega (arith, coding-place (numbers (a .a) (a .e) (a .rnti) (a .n-id)) (a .payload .now) (a .out .now)))
 
 same-length : tie.Need-same-length
 same-length c = search needs

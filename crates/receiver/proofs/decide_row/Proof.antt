@@ -1,0 +1,87 @@
+-- `receiver::decide_row` meets its contract.
+-- Assumes nothing.
+use Prim.Native.Nat.{ℕ, _≤_, _^_}
+use borrow.Author.Needs.{needs}
+use mathlib.Core.Path.{_≡_, sym, subst, ap, _∙_}
+use mathlib.Core.List.{List, _++_}
+use lib.ListN.{length, take, drop, replicate}
+use lib.Pow.{pow-mono}
+use Rattle.nr.specs.SuccessiveDecoder.{marks, successive}
+use Rattle.rows.proofs.Parts.{take-replicate, front-back, front-room, front-size}
+use Rattle.polar.specs.Codes.{Positions}
+use Rattle.successive_decoder.specs.Levels.{rowOf}
+use Rattle.receiver.proofs.decide_row.Statement.{statement}
+use Rattle.receiver.proofs.decide_row.Tie as tie
+
+-- N, the part of the row that is lent, and the marks that come back in it
+abbrev N : tie.Start → ℕ
+N s = length (s .args .est .now)
+
+room : (s : tie.Start) → N s ≤ 512
+room s = subst (λ (m : ℕ). m ≤ 512) (sym (s .pre .0 .2)) (pow-mono {i = s .args .n} {j = 9} (s .pre .0 .0))
+
+size : (s : tie.Start) → length {A = ℕ} (take (N s) (replicate 512 0)) ≡ N s
+size s = front-size (N s) 512 0 (room s)
+
+mark-requires : tie.Need-mark-requires
+mark-requires c κs =
+    let s = c .before .before .before in
+    let ps = s .args .positions .now in (
+      subst (λ (m : ℕ). Positions m ps) (sym (size s ∙ s .pre .0 .2)) (s .pre .0 .1),
+      take-replicate (N s) 512 0 (room s) ∙ ap (λ (m : ℕ). replicate m 0) (sym (size s)),
+    )
+
+back-size : (c : tie.After-mark) → length (c .mark .last .1 .0) ≡ N (c .before .before .before .before)
+back-size c = c .mark .kept .1 .0 ∙ size (c .before .before .before .before)
+
+lent : (c : tie.After-mark) → let s = c .before .before .before .before in
+    take (N s) (c .mark .last .1 .0 ++ drop (N s) (replicate 512 0)) ≡ marks (2 ^ s .args .n) (s .args .positions .now)
+lent c =
+    let s = c .before .before .before .before in
+    front-back (c .mark .last .1 .0) _ (N s) (back-size c) ∙ c .mark .ensures
+    ∙ ap (λ (m : ℕ). marks m (s .args .positions .now)) (size s ∙ s .pre .0 .2)
+
+lent-size : (c : tie.After-mark) → let n = N (c .before .before .before .before) in
+    length (take n (c .mark .last .1 .0 ++ drop n (replicate 512 0))) ≡ n
+lent-size c = ap length (front-back (c .mark .last .1 .0) _ (N (c .before .before .before .before)) (back-size c)) ∙ back-size c
+
+returns : tie.Need-returns
+returns c =
+    let d = c .before .before in
+    let m = d .before .before .before .before .before in
+    let a = m .before .before .before .before .args in
+    d .decode-row .ensures ∙ ap (λ (r : List ℕ). successive (a .n) r (rowOf (2 ^ a .n) (a .work .now))) (lent m)
+
+array-borrow-prefix-chosen : tie.Need-array-borrow-prefix-chosen
+array-borrow-prefix-chosen c = room (c .before .before)
+
+slice-aggregate-mark : tie.Need-slice-aggregate-mark
+slice-aggregate-mark c = sym (size (c .before .before .before))
+
+array-share-prefix-chosen : tie.Need-array-share-prefix-chosen
+array-share-prefix-chosen c = front-room (c .before .before .mark .last .1 .0) _ _ (back-size (c .before .before))
+
+slice-aggregate-decode-row : tie.Need-slice-aggregate-decode-row
+slice-aggregate-decode-row c = sym (lent-size (c .before .before .before))
+
+decode-row-requires : tie.Need-decode-row-requires
+decode-row-requires c κs =
+    let m = c .before .before .before .before in
+    let s = m .before .before .before .before in
+    ((s .pre .0 .0, s .pre .1 .0, lent-size m ∙ s .pre .0 .2, s .pre .0 .2), s .pre .1 .1)
+
+same-length : tie.Need-same-length
+same-length c = search needs
+
+pub decide-row-spec : {M : Type 1} → statement M
+decide-row-spec =
+    tie.close
+    (tie.spec
+    array-borrow-prefix-chosen
+    slice-aggregate-mark
+    mark-requires
+    array-share-prefix-chosen
+    slice-aggregate-decode-row
+    decode-row-requires
+    same-length
+    returns)

@@ -1,0 +1,131 @@
+-- `receiver::receive` meets its contract.
+-- Assumes nothing.
+use Prim.Native.Nat.{ℕ, _*_, _%_, _^_, _≤_}
+use native.Mathlib.Omega.{arith}
+use borrow.Author.Needs.{needs}
+use mathlib.Core.Path.{_≡_, sym, subst, ap, _∙_}
+use mathlib.Core.List.{_++_}
+use lib.ListN.{length, take, drop, replicate}
+use lib.Pow.{pow-mono}
+use Rattle.nr.specs.Rows.{entries}
+use Rattle.nr.specs.Interleaver.{deinterleave}
+use Rattle.nr.specs.Decoding.{decided}
+use Rattle.nr.proofs.Words.{shl-one}
+use Rattle.rows.proofs.Parts.{front-back, front-room, front-size}
+use Rattle.polar.specs.Codes.{Positions}
+use Rattle.receiver.proofs.receive.Statement.{statement}
+use Rattle.receiver.proofs.receive.Tie as tie
+
+-- N is a shift of 1, and at most 512
+abbrev N : tie.Start → ℕ
+N s = 1 * 2 ^ s .args .n % 2 ^ 64
+
+power : (s : tie.Start) → N s ≡ 2 ^ s .args .n
+power s = shl-one (s .args .n) (omega (arith, s .pre .0 .1))
+
+room : (s : tie.Start) → N s ≤ 512
+room s = subst (λ (m : ℕ). m ≤ 512) (sym (power s)) (pow-mono {i = s .args .n} {j = 9} (s .pre .0 .1))
+
+-- the decided bits, in the part that was lent for them
+est-size : (s : tie.Start) → length {A = ℕ} (take (N s) (replicate 512 0)) ≡ N s
+est-size s = front-size (N s) 512 0 (room s)
+
+est-back : (c : tie.After-decide) → length (c .decide .last .1 .1 .1 .1 .1 .0) ≡ N (c .before .before .before .before)
+est-back c = c .decide .kept .1 .1 .1 .1 .1 .0 ∙ est-size (c .before .before .before .before)
+
+est-lent : (c : tie.After-decide) → let s = c .before .before .before .before in
+    take (N s) (c .decide .last .1 .1 .1 .1 .1 .0 ++ drop (N s) (replicate 512 0)) ≡ c .decide .last .1 .1 .1 .1 .1 .0
+est-lent c = front-back (c .decide .last .1 .1 .1 .1 .1 .0) _ (N (c .before .before .before .before)) (est-back c)
+
+-- those at the information positions, in the part that was lent for them
+abbrev K : tie.Start → ℕ
+K s = length (s .args .positions .now)
+
+few : (s : tie.Start) → K s ≤ 164
+few s = s .pre .1 .1 .few
+
+bits-size : (s : tie.Start) → length {A = ℕ} (take (K s) (replicate 164 0)) ≡ K s
+bits-size s = front-size (K s) 164 0 (few s)
+
+bits-back : (c : tie.After-pick) → length (c .pick .last .1 .1 .0) ≡ K (c .before .before .before .before .before .before .before .before)
+bits-back c = c .pick .kept .1 .1 .0 ∙ bits-size (c .before .before .before .before .before .before .before .before)
+
+bits-lent : (c : tie.After-pick) → let s = c .before .before .before .before .before .before .before .before in
+    take (K s) (c .pick .last .1 .1 .0 ++ drop (K s) (replicate 164 0)) ≡ c .pick .last .1 .1 .0
+bits-lent c = front-back (c .pick .last .1 .1 .0) _ (K (c .before .before .before .before .before .before .before .before)) (bits-back c)
+
+returns : tie.Need-returns
+returns c =
+    let i = c .before .before in
+    let p = i .before .before .before .before in
+    let d = p .before .before .before .before in
+    let a = d .before .before .before .before .args in
+    i .deinterleave .ensures
+    ∙ ap deinterleave (bits-lent p ∙ p .pick .ensures ∙ ap (entries (a .positions .now)) (est-lent d ∙ d .decide .ensures))
+
+shl-len : tie.Need-shl-len
+shl-len c = search needs
+
+array-borrow-prefix-est : tie.Need-array-borrow-prefix-est
+array-borrow-prefix-est c = room (c .before .before)
+
+slice-aggregate-decide : tie.Need-slice-aggregate-decide
+slice-aggregate-decide c = sym (est-size (c .before .before .before))
+
+decide-requires : tie.Need-decide-requires
+decide-requires c κs =
+    let s = c .before .before .before in
+    (s .pre .0, (s .pre .1 .0, s .pre .1 .1, est-size s ∙ power s))
+
+array-share-prefix-est : tie.Need-array-share-prefix-est
+array-share-prefix-est c = front-room (c .before .decide .last .1 .1 .1 .1 .1 .0) _ _ (est-back (c .before))
+
+slice-aggregate-pick : tie.Need-slice-aggregate-pick
+slice-aggregate-pick c = sym (ap length (est-lent (c .before .before)) ∙ est-back (c .before .before))
+
+array-borrow-prefix-bits : tie.Need-array-borrow-prefix-bits
+array-borrow-prefix-bits c = search needs
+
+slice-aggregate-pick-2 : tie.Need-slice-aggregate-pick-2
+slice-aggregate-pick-2 c = sym (bits-size (c .before .before .before .before .before .before .before))
+
+pick-requires : tie.Need-pick-requires
+pick-requires c κs =
+    let d = c .before .before .before in
+    let s = d .before .before .before .before in
+    (subst (λ (m : ℕ). Positions m (s .args .positions .now)) (sym (ap length (est-lent d) ∙ est-back d ∙ power s)) (s .pre .1 .1), bits-size s)
+
+array-share-prefix-bits : tie.Need-array-share-prefix-bits
+array-share-prefix-bits c = front-room (c .before .pick .last .1 .1 .0) _ _ (bits-back (c .before))
+
+slice-aggregate-deinterleave : tie.Need-slice-aggregate-deinterleave
+slice-aggregate-deinterleave c = sym (ap length (bits-lent (c .before .before)) ∙ bits-back (c .before .before))
+
+deinterleave-requires : tie.Need-deinterleave-requires
+deinterleave-requires c κs =
+    let p = c .before .before .before in
+    let s = p .before .before .before .before .before .before .before .before in
+    let size = ap length (bits-lent p) ∙ bits-back p in
+    (subst (λ (m : ℕ). m ≤ 164) (sym size) (few s), s .pre .1 .2 ∙ sym size)
+
+same-length : tie.Need-same-length
+same-length c = search needs
+
+pub receive-spec : {M : Type 1} → statement M
+receive-spec =
+    tie.close
+    (tie.spec
+    shl-len
+    array-borrow-prefix-est
+    slice-aggregate-decide
+    decide-requires
+    array-share-prefix-est
+    slice-aggregate-pick
+    array-borrow-prefix-bits
+    slice-aggregate-pick-2
+    pick-requires
+    array-share-prefix-bits
+    slice-aggregate-deinterleave
+    deinterleave-requires
+    same-length
+    returns)
