@@ -1,10 +1,11 @@
-# make demo   proves and builds the library, and codes a message
+# make demo   proves and builds the library, codes a message and reads it back
 # make test   the gate: all proofs from nothing, the edits that must be refused, then the library's tests
-# make bench  times coding against plain C and the second program
+# make long   decoding against the second program for some minutes (ROUNDS=60 SEED=1)
+# make bench  times coding and decoding against plain C and the second program
 SHELL := bash
 .SHELLFLAGS := -euo pipefail -c
 .ONESHELL:
-.PHONY: lib demo test bench
+.PHONY: lib demo test long bench
 
 lib:
 	@rt staticlib speltfeather
@@ -21,6 +22,10 @@ test:
 	rt staticlib speltfeather
 	(cd rust && cargo test --release)
 	tail -n 1 "$$log"
+
+long: lib
+	@cd rust
+	cargo test --quiet --release -p conformance --test long -- --ignored --nocapture
 
 bench: lib
 	@cd rust

@@ -1,7 +1,8 @@
 /*
  * Speltfeather: channel coding of 5G NR downlink control information (DCI),
  * TS 38.212 7.3.2 to 7.3.4 and TS 38.211 7.3.2.3: CRC, RNTI, input interleaver,
- * polar code, rate matching, scrambling.
+ * polar code, rate matching, scrambling; and back from soft values, by
+ * successive cancellation.
  *
  * Link with libspeltfeather.a. Nothing has to be set up first, and nothing is
  * kept between calls: calls may run in any number of threads at once. A call
@@ -23,40 +24,59 @@ extern "C" {
  * it held before the call.
  */
 enum spelt_number {
-    SPELT_DONE = 0,          /* the output holds e bits */
-    SPELT_PAYLOAD_SIZE = 1,  /* a is outside 12..140 */
-    SPELT_CODED_LENGTH = 2,  /* e is not among 108, 216, 432, 864, 1728 */
-    SPELT_TOO_MANY_BITS = 3, /* a + 24 is more than e */
-    SPELT_INPUT_LENGTH = 4,  /* payload_len is not a */
-    SPELT_OUTPUT_LENGTH = 5, /* out_len is not e */
-    SPELT_BAD_ENTRY = 6      /* a payload byte is above 1; carries its place */
+    SPELT_DONE = 0,           /* the output is filled */
+    SPELT_PAYLOAD_SIZE = 1,   /* a is outside 12..140 */
+    SPELT_CODED_LENGTH = 2,   /* e is not among 108, 216, 432, 864, 1728 */
+    SPELT_TOO_MANY_BITS = 3,  /* a + 24 is more than e */
+    SPELT_INPUT_LENGTH = 4,   /* the length of an input does not fit a and e */
+    SPELT_OUTPUT_LENGTH = 5,  /* the length of the output does not fit them */
+    SPELT_BAD_ENTRY = 6,      /* an entry of the input is outside its range;
+                                 carries the place of the first */
+    SPELT_PARITY_MISMATCH = 7 /* decoding ran, and the parity does not match */
 };
+
+/*
+ * What they ask of the buffers, and which can come:
+ *
+ *                  spelt_encode   spelt_decode   spelt_loopback
+ *   0  out holds   e bits         a bits         a bits
+ *   4  lengths     payload a      soft e         payload a, strengths e
+ *   5  length      out e          out a          out a
+ *   6  range       payload 0, 1   soft -127..127 payload 0, 1; strengths 1..127
+ *   7              never          may come       never
+ */
 
 /* The number in the answer r of a call: one of enum spelt_number. */
 #define SPELT_NUMBER(r) ((int)((r) & 255u))
 
 /* The place in the answer r: with SPELT_BAD_ENTRY the index, from 0, of the
- * first payload byte above 1; with every other number 0. */
+ * first entry outside its range; with every other number 0. */
 #define SPELT_PLACE(r) ((size_t)((r) >> 8))
 
 /*
- * Codes a payload of a bits into e scrambled bits.
+ * What the calls share:
  *
  *   a        payload size A: 12 to 140 bits, the 24 parity bits not counted
  *   e        coded length E: 108, 216, 432, 864 or 1728 bits (aggregation
  *            level 1, 2, 4, 8 or 16)
  *   rnti     radio number, added to the last 16 parity bits
  *   n_id     scrambling identity, the start value of the Gold sequence
+ *
+ * No pointer may be null, not even where its length is 0. Each must be valid
+ * for as many entries as its length says (inputs are read; out is read and
+ * written), and out must not overlap an input. Nothing else is asked: any
+ * numbers, lengths and entries may be handed in, and what does not fit is
+ * refused.
+ *
+ * Each call gives the number plus 256 times the place; take them out with
+ * SPELT_NUMBER and SPELT_PLACE. 0 means done.
+ */
+
+/*
+ * Codes a payload of a bits into e scrambled bits.
+ *
  *   payload  the payload, a bit in each byte (0 or 1), first bit first
  *   out      takes the coded bits, a bit in each byte, first bit first
- *
- * payload and out must not be null, not even where a length is 0. They must be
- * valid for payload_len bytes (read) and out_len bytes (read and written), and
- * must not overlap. Nothing else is asked: any numbers, lengths and bytes may
- * be handed in, and what cannot be coded is refused.
- *
- * Gives the number plus 256 times the place; take them out with SPELT_NUMBER
- * and SPELT_PLACE. 0 means done.
  *
  *   uint8_t out[432];
  *   uint64_t r = spelt_encode(37, 432, 0xFFFF, n_id, payload, 37, out, 432);
@@ -66,6 +86,45 @@ enum spelt_number {
 uint64_t spelt_encode(uint64_t a, uint64_t e, uint16_t rnti, uint16_t n_id,
                       const uint8_t *payload, size_t payload_len,
                       uint8_t *out, size_t out_len);
+
+/*
+ * Reads a payload of a bits from e soft values, and checks its parity.
+ *
+ *   soft     a value for each received bit, in the order in which
+ *            spelt_encode gives them and still scrambled: its log-likelihood
+ *            ratio, scaled to whole numbers from -127 to 127. Positive leans
+ *            to bit 0, negative to bit 1, and 0 says nothing.
+ *   out      takes the payload, a bit in each byte, first bit first
+ *
+ * SPELT_PARITY_MISMATCH says that no payload was found under these numbers: too
+ * much noise, another RNTI, n_id or size, or no message at all.
+ *
+ *   uint8_t payload[37];
+ *   uint64_t r = spelt_decode(37, 432, 0xFFFF, n_id, soft, 432, payload, 37);
+ *   if (SPELT_NUMBER(r) == SPELT_DONE)
+ *       take(payload);
+ */
+uint64_t spelt_decode(uint64_t a, uint64_t e, uint16_t rnti, uint16_t n_id,
+                      const int32_t *soft, size_t soft_len,
+                      uint8_t *out, size_t out_len);
+
+/*
+ * Codes a payload, gives coded bit k the strength strengths[k] with the sign
+ * that says its value (positive for 0, negative for 1), and decodes these soft
+ * values under the same numbers: a self-test for the start-up of a tester.
+ *
+ *   payload    the payload, a bit in each byte (0 or 1), first bit first
+ *   strengths  a strength from 1 to 127 for each coded bit
+ *   out        takes the payload that was decoded
+ *
+ * SPELT_DONE comes wherever 1 to 6 do not apply, and out then holds the
+ * payload. Entries are counted through the payload and then the strengths: the
+ * place is k for payload[k] and a + k for strengths[k].
+ */
+uint64_t spelt_loopback(uint64_t a, uint64_t e, uint16_t rnti, uint16_t n_id,
+                        const uint8_t *payload, size_t payload_len,
+                        const int32_t *strengths, size_t strengths_len,
+                        uint8_t *out, size_t out_len);
 
 #ifdef __cplusplus
 }

@@ -1,4 +1,4 @@
-//! Compiles the plain C coder, once for each scrambler, with its tables written out as a header.
+//! Compiles plain.c, once for each scrambler, with its tables written out as a header.
 
 use std::env;
 use std::fmt::Display;
@@ -6,7 +6,8 @@ use std::fs;
 use std::path::{Path, PathBuf};
 use std::process::Command;
 
-const VARIANTS: [(&str, &str); 2] = [("plain_encode_1", "1"), ("plain_encode_16", "16")];
+/// Terms of the Gold sequence that the scrambler makes in one step.
+const SCRAMBLERS: [u32; 2] = [1, 16];
 
 fn main() {
     let package = PathBuf::from(variable("CARGO_MANIFEST_DIR"));
@@ -19,9 +20,9 @@ fn main() {
     println!("cargo::rerun-if-env-changed=CC");
 
     fs::write(out.join("tables.h"), tables()).expect("the tables can be written");
-    for (name, scrambler) in VARIANTS {
-        let object = out.join(name).with_extension("o");
-        compile(&source, &object, &[&include, &out], name, scrambler);
+    for terms in SCRAMBLERS {
+        let object = out.join(format!("plain_{terms}.o"));
+        compile(&source, &object, &[&include, &out], terms);
         println!("cargo::rustc-link-arg-bins={}", object.display());
     }
 }
@@ -30,13 +31,14 @@ fn variable(name: &str) -> String {
     env::var(name).unwrap_or_else(|_| panic!("cargo sets {name}"))
 }
 
-fn compile(source: &Path, object: &Path, includes: &[&Path], name: &str, scrambler: &str) {
+fn compile(source: &Path, object: &Path, includes: &[&Path], terms: u32) {
     let compiler = env::var("CC").unwrap_or_else(|_| "cc".into());
     let status = Command::new(&compiler)
         .args(["-std=c99", "-O3", "-Wall", "-Wextra", "-pedantic", "-c"])
         .args(includes.iter().map(|path| format!("-I{}", path.display())))
-        .arg(format!("-DPLAIN_ENCODE={name}"))
-        .arg(format!("-DPLAIN_SCRAMBLER={scrambler}"))
+        .arg(format!("-DPLAIN_ENCODE=plain_encode_{terms}"))
+        .arg(format!("-DPLAIN_DECODE=plain_decode_{terms}"))
+        .arg(format!("-DPLAIN_SCRAMBLER={terms}"))
         .arg("-o")
         .args([object, source])
         .status()

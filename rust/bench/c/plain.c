@@ -1,10 +1,13 @@
 /*
- * The same coder in plain C, as a baseline for the bench: each step as a C
- * programmer would write it, with the layout worked out anew at each call.
+ * The same coder and decoder in plain C, as a baseline for the bench: each step
+ * as a C programmer would write it, with the layout worked out anew at each
+ * call.
  *
- * PLAIN_ENCODE     the name of the exported constant, which points to the coder
+ * PLAIN_ENCODE     the name of the exported constant that points to the coder
+ * PLAIN_DECODE     the same for the decoder
  * PLAIN_SCRAMBLER  terms of the Gold sequence made in one step: 1 or 16
  */
+#include <stdlib.h>
 #include <string.h>
 
 #include "speltfeather.h"
@@ -14,12 +17,14 @@
 #error "PLAIN_SCRAMBLER is 1 or 16"
 #endif
 
-enum { PARITY = 24, MOST_K = 164, MOST_N = 512 };
+enum { PARITY = 24, MOST_K = 164, MOST_N = 512, MOST_E = 1728 };
+
+/* The value of a shortened position, whose bit is known to be 0. */
+enum { CERTAIN = 1048576 };
 
 typedef enum { REPETITION, PUNCTURING, SHORTENING } kind;
 
-static uint64_t refusal(uint64_t a, uint64_t e, const uint8_t *payload,
-                        size_t payload_len, size_t out_len)
+static uint64_t refused_sizes(uint64_t a, uint64_t e)
 {
     if (a < 12 || a > 140)
         return SPELT_PAYLOAD_SIZE;
@@ -27,6 +32,15 @@ static uint64_t refusal(uint64_t a, uint64_t e, const uint8_t *payload,
         return SPELT_CODED_LENGTH;
     if (a + PARITY > e)
         return SPELT_TOO_MANY_BITS;
+    return SPELT_DONE;
+}
+
+static uint64_t refused_coding(uint64_t a, uint64_t e, const uint8_t *payload,
+                               size_t payload_len, size_t out_len)
+{
+    uint64_t refused = refused_sizes(a, e);
+    if (refused != SPELT_DONE)
+        return refused;
     if (payload_len != a)
         return SPELT_INPUT_LENGTH;
     if (out_len != e)
@@ -37,18 +51,48 @@ static uint64_t refusal(uint64_t a, uint64_t e, const uint8_t *payload,
     return SPELT_DONE;
 }
 
-/* The row c: payload, then parity with the RNTI on its last 16 bits. */
-static void attach(const uint8_t *payload, size_t a, uint16_t rnti, uint8_t *c)
+static uint64_t refused_decoding(uint64_t a, uint64_t e, const int32_t *soft,
+                                 size_t soft_len, size_t out_len)
+{
+    uint64_t refused = refused_sizes(a, e);
+    if (refused != SPELT_DONE)
+        return refused;
+    if (soft_len != e)
+        return SPELT_INPUT_LENGTH;
+    if (out_len != a)
+        return SPELT_OUTPUT_LENGTH;
+    for (size_t i = 0; i < soft_len; i++)
+        if (soft[i] < -127 || soft[i] > 127)
+            return SPELT_BAD_ENTRY + 256 * (uint64_t)i;
+    return SPELT_DONE;
+}
+
+/* The parity of a payload with the RNTI on its last 16 bits. */
+static uint32_t masked_parity(const uint8_t *payload, size_t a, uint16_t rnti)
 {
     uint32_t crc = PARITY_OF_ONES;
     for (size_t i = 0; i < a; i++) {
         uint32_t carry = (crc >> 23 ^ payload[i]) & 1;
         crc = (crc << 1 & 0xFFFFFF) ^ (carry ? 0xB2B117 : 0);
     }
-    crc ^= rnti;
+    return crc ^ rnti;
+}
+
+/* The row c: payload, then parity with the RNTI on its last 16 bits. */
+static void attach(const uint8_t *payload, size_t a, uint16_t rnti, uint8_t *c)
+{
+    uint32_t crc = masked_parity(payload, a, rnti);
     memcpy(c, payload, a);
     for (int i = 0; i < PARITY; i++)
         c[a + i] = crc >> (PARITY - 1 - i) & 1;
+}
+
+static int parity_matches(const uint8_t *c, size_t a, uint16_t rnti)
+{
+    uint32_t received = 0;
+    for (int i = 0; i < PARITY; i++)
+        received = received << 1 | c[a + i];
+    return received == masked_parity(c, a, rnti);
 }
 
 static void interleave(const uint8_t *c, size_t k, uint8_t *row)
@@ -57,6 +101,14 @@ static void interleave(const uint8_t *c, size_t k, uint8_t *row)
     for (size_t i = 0; i < MOST_K; i++)
         if (INTERLEAVER[i] >= skipped)
             row[filled++] = c[INTERLEAVER[i] - skipped];
+}
+
+static void deinterleave(const uint8_t *row, size_t k, uint8_t *c)
+{
+    size_t skipped = MOST_K - k, taken = 0;
+    for (size_t i = 0; i < MOST_K; i++)
+        if (INTERLEAVER[i] >= skipped)
+            c[INTERLEAVER[i] - skipped] = row[taken++];
 }
 
 static unsigned ceil_log2(size_t x)
@@ -107,21 +159,35 @@ static void bar(kind matching, size_t e, size_t n, uint8_t *barred)
     }
 }
 
-/* The row u: the k most reliable free positions take the row, ascending. */
-static void place(const uint8_t *row, size_t k, size_t n, const uint8_t *barred,
-                  uint8_t *u)
+/* Marks the information positions: the k most reliable free ones. */
+static void choose(size_t k, size_t n, const uint8_t *barred, uint8_t *chosen)
 {
-    uint8_t chosen[MOST_N] = {0};
-    size_t left = k, next = 0;
-    for (size_t i = MOST_N; left > 0 && i-- > 0;) {
+    memset(chosen, 0, n);
+    for (size_t i = MOST_N; k > 0 && i-- > 0;) {
         size_t position = RELIABILITY[i];
         if (position < n && !barred[position]) {
             chosen[position] = 1;
-            left--;
+            k--;
         }
     }
+}
+
+/* The row u: the information positions take the row, ascending. */
+static void place(const uint8_t *row, size_t n, const uint8_t *chosen,
+                  uint8_t *u)
+{
+    size_t next = 0;
     for (size_t i = 0; i < n; i++)
         u[i] = chosen[i] ? row[next++] : 0;
+}
+
+static void take(const uint8_t *u, size_t n, const uint8_t *chosen,
+                 uint8_t *row)
+{
+    size_t next = 0;
+    for (size_t i = 0; i < n; i++)
+        if (chosen[i])
+            row[next++] = u[i];
 }
 
 static void transform(uint8_t *u, size_t n)
@@ -146,6 +212,65 @@ static void match(kind matching, const uint8_t *d, size_t n, size_t e,
     else
         for (size_t done = 0; done < e; done += n)
             memcpy(out + done, y, e - done < n ? e - done : n);
+}
+
+/* The values of the code positions: repeats added, unsent ones filled in. */
+static void gather(kind matching, const int32_t *values, size_t n, size_t e,
+                   int32_t *d)
+{
+    int32_t y[MOST_N];
+    size_t size = n / 32, unsent = n > e ? n - e : 0;
+    if (matching == PUNCTURING) {
+        memset(y, 0, unsent * sizeof *y);
+        memcpy(y + unsent, values, e * sizeof *y);
+    } else if (matching == SHORTENING) {
+        memcpy(y, values, e * sizeof *y);
+        for (size_t i = e; i < n; i++)
+            y[i] = CERTAIN;
+    } else {
+        memcpy(y, values, n * sizeof *y);
+        for (size_t done = n; done < e; done += n)
+            for (size_t i = 0; i < n && i < e - done; i++)
+                y[i] += values[done + i];
+    }
+    for (size_t block = 0; block < 32; block++)
+        memcpy(d + SUB_BLOCKS[block] * size, y + block * size,
+               size * sizeof *y);
+}
+
+/* The smaller magnitude with the product of the signs. */
+static int32_t f(int32_t a, int32_t b)
+{
+    int32_t size_a = abs(a), size_b = abs(b);
+    int32_t size = size_a < size_b ? size_a : size_b;
+    return (a < 0) != (b < 0) ? -size : size;
+}
+
+static int32_t g(uint8_t v, int32_t a, int32_t b)
+{
+    return v ? b - a : b + a;
+}
+
+/*
+ * Decides m positions from their row of values: the bits in u, and coded again
+ * in v. Rows of the halves stand in work, which has room for m - 1 values.
+ */
+static void decide(const int32_t *row, const uint8_t *chosen, size_t m,
+                   int32_t *work, uint8_t *u, uint8_t *v)
+{
+    if (m == 1) {
+        *u = *v = *chosen && *row < 0;
+        return;
+    }
+    size_t half = m / 2;
+    for (size_t i = 0; i < half; i++)
+        work[i] = f(row[i], row[half + i]);
+    decide(work, chosen, half, work + half, u, v);
+    for (size_t i = 0; i < half; i++)
+        work[i] = g(v[i], row[i], row[half + i]);
+    decide(work, chosen + half, half, work + half, u + half, v + half);
+    for (size_t i = 0; i < half; i++)
+        v[i] ^= v[half + i];
 }
 
 #if PLAIN_SCRAMBLER == 1
@@ -191,28 +316,79 @@ static void scramble(uint16_t n_id, uint8_t *out, size_t e)
     }
 }
 
+/* Negates a value where the term of the Gold sequence is 1. */
+static void descramble(uint16_t n_id, const int32_t *soft, size_t e,
+                       int32_t *values)
+{
+    uint32_t x1 = 1, x2 = n_id;
+    for (int i = 0; i < 1600 / PLAIN_SCRAMBLER; i++) {
+        x1 = next_x1(x1);
+        x2 = next_x2(x2);
+    }
+    for (size_t done = 0; done < e; done += PLAIN_SCRAMBLER) {
+        size_t left = e - done;
+        size_t terms = left < PLAIN_SCRAMBLER ? left : PLAIN_SCRAMBLER;
+        for (size_t i = 0; i < terms; i++)
+            values[done + i] =
+                (x1 ^ x2) >> i & 1 ? -soft[done + i] : soft[done + i];
+        x1 = next_x1(x1);
+        x2 = next_x2(x2);
+    }
+}
+
 static uint64_t encode(uint64_t a, uint64_t e, uint16_t rnti, uint16_t n_id,
                        const uint8_t *payload, size_t payload_len,
                        uint8_t *out, size_t out_len)
 {
-    uint64_t refused = refusal(a, e, payload, payload_len, out_len);
+    uint64_t refused = refused_coding(a, e, payload, payload_len, out_len);
     if (refused != SPELT_DONE)
         return refused;
 
-    uint8_t c[MOST_K], row[MOST_K], barred[MOST_N], u[MOST_N];
+    uint8_t c[MOST_K], row[MOST_K], barred[MOST_N], chosen[MOST_N], u[MOST_N];
     size_t k = a + PARITY;
     size_t n = code_length(k, e);
     kind matching = rate_matching(k, e, n);
     attach(payload, a, rnti, c);
     interleave(c, k, row);
     bar(matching, e, n, barred);
-    place(row, k, n, barred, u);
+    choose(k, n, barred, chosen);
+    place(row, n, chosen, u);
     transform(u, n);
     match(matching, u, n, e, out);
     scramble(n_id, out, e);
     return SPELT_DONE;
 }
 
-/* By the type of the interface's own call, so that the two cannot differ. */
+static uint64_t decode(uint64_t a, uint64_t e, uint16_t rnti, uint16_t n_id,
+                       const int32_t *soft, size_t soft_len,
+                       uint8_t *out, size_t out_len)
+{
+    uint64_t refused = refused_decoding(a, e, soft, soft_len, out_len);
+    if (refused != SPELT_DONE)
+        return refused;
+
+    int32_t values[MOST_E], d[MOST_N], work[MOST_N];
+    uint8_t barred[MOST_N], chosen[MOST_N], u[MOST_N], v[MOST_N];
+    uint8_t row[MOST_K], c[MOST_K];
+    size_t k = a + PARITY;
+    size_t n = code_length(k, e);
+    kind matching = rate_matching(k, e, n);
+    descramble(n_id, soft, e, values);
+    gather(matching, values, n, e, d);
+    bar(matching, e, n, barred);
+    choose(k, n, barred, chosen);
+    decide(d, chosen, n, work, u, v);
+    take(u, n, chosen, row);
+    deinterleave(row, k, c);
+    if (!parity_matches(c, a, rnti))
+        return SPELT_PARITY_MISMATCH;
+    memcpy(out, c, a);
+    return SPELT_DONE;
+}
+
+/* By the types of the interface's own calls, so that they cannot differ. */
 extern const __typeof__(&spelt_encode) PLAIN_ENCODE;
 const __typeof__(&spelt_encode) PLAIN_ENCODE = encode;
+
+extern const __typeof__(&spelt_decode) PLAIN_DECODE;
+const __typeof__(&spelt_decode) PLAIN_DECODE = decode;

@@ -1,12 +1,14 @@
-//! A second coder for 5G NR downlink control information, to compare the library with.
+//! A second coder and decoder for 5G NR downlink control information, to compare the library with.
 //!
 //! It follows the same rules (TS 38.212 5.3.1, 5.4.1, 7.3.2 to 7.3.4; TS 38.211 5.2.1, 7.3.2.3) by
 //! other means, so that one mistake is unlikely to be made twice: the CRC is a division of numbers,
 //! the transform a product with the matrix, the interleaver is rebuilt from the generator, the
-//! reliability order comes from another print, and the Gold sequence is its recurrence on arrays.
+//! reliability order comes from another print, the Gold sequence is its recurrence on arrays, and the
+//! decoder goes from position to position instead of calling itself on halves.
 //! It is written to be checked, not to be fast.
 
 pub mod construction;
+pub mod decoding;
 pub mod interleaver;
 pub mod parity;
 pub mod published;
@@ -36,26 +38,65 @@ pub fn refused_sizes(a: u64, e: u64) -> Option<u8> {
     }
 }
 
-/// The refusal that a call gives, as number and place; none if it is to be coded.
-fn refused(a: u64, e: u64, payload: &[u8], out_len: usize) -> Option<(u8, usize)> {
+/// The refusal, 1 to 5, that sizes and lengths call for; `inputs` and `output` are lengths, each with
+/// the one that it must be.
+fn refused_lengths(a: u64, e: u64, inputs: &[(usize, u64)], output: (usize, u64)) -> Option<u8> {
+    let wrong = |&(length, fits): &(usize, u64)| length as u64 != fits;
     if let Some(number) = refused_sizes(a, e) {
-        return Some((number, 0));
+        Some(number)
+    } else if inputs.iter().any(wrong) {
+        Some(4)
+    } else if wrong(&output) {
+        Some(5)
+    } else {
+        None
     }
-    if payload.len() as u64 != a {
-        return Some((4, 0));
+}
+
+/// The refusal of a call, as number and place: by its lengths, else by the first entry of its input
+/// that is marked as bad; none if it is to be done.
+fn refused(lengths: Option<u8>, mut bad: impl Iterator<Item = bool>) -> Option<(u8, usize)> {
+    match lengths {
+        Some(number) => Some((number, 0)),
+        None => bad.position(|bad| bad).map(|place| (6, place)),
     }
-    if out_len as u64 != e {
-        return Some((5, 0));
-    }
-    let place = payload.iter().position(|&bit| bit > 1)?;
-    Some((6, place))
+}
+
+fn refused_coding(a: u64, e: u64, payload: &[u8], out_len: usize) -> Option<(u8, usize)> {
+    let lengths = refused_lengths(a, e, &[(payload.len(), a)], (out_len, e));
+    refused(lengths, payload.iter().map(|&bit| bit > 1))
+}
+
+fn refused_decoding(a: u64, e: u64, soft: &[i32], out_len: usize) -> Option<(u8, usize)> {
+    let lengths = refused_lengths(a, e, &[(soft.len(), e)], (out_len, a));
+    refused(
+        lengths,
+        soft.iter().map(|value| !(-127..=127).contains(value)),
+    )
+}
+
+/// The entries are counted through the payload and then the strengths.
+fn refused_loopback(
+    a: u64,
+    e: u64,
+    payload: &[u8],
+    strengths: &[i32],
+    out_len: usize,
+) -> Option<(u8, usize)> {
+    let inputs = [(payload.len(), a), (strengths.len(), e)];
+    let lengths = refused_lengths(a, e, &inputs, (out_len, a));
+    let bad_payload = payload.iter().map(|&bit| bit > 1);
+    let bad_strengths = strengths
+        .iter()
+        .map(|strength| !(1..=127).contains(strength));
+    refused(lengths, bad_payload.chain(bad_strengths))
 }
 
 /// Codes `payload` into `out` and gives the number and the place.
 ///
 /// On every number but 0, `out` is untouched.
 pub fn encode(a: u64, e: u64, rnti: u16, n_id: u16, payload: &[u8], out: &mut [u8]) -> (u8, usize) {
-    if let Some(answer) = refused(a, e, payload, out.len()) {
+    if let Some(answer) = refused_coding(a, e, payload, out.len()) {
         return answer;
     }
     let layout = layout(a, e).expect("the sizes are accepted");
@@ -64,17 +105,62 @@ pub fn encode(a: u64, e: u64, rnti: u16, n_id: u16, payload: &[u8], out: &mut [u
     (0, 0)
 }
 
+/// Decodes `soft` into `out` and gives the number and the place.
+///
+/// On every number but 0, `out` is untouched.
+pub fn decode(a: u64, e: u64, rnti: u16, n_id: u16, soft: &[i32], out: &mut [u8]) -> (u8, usize) {
+    if let Some(answer) = refused_decoding(a, e, soft, out.len()) {
+        return answer;
+    }
+    let layout = layout(a, e).expect("the sizes are accepted");
+    let Some(payload) = decoding::payload(&layout, rnti, n_id, soft) else {
+        return (7, 0);
+    };
+    out.copy_from_slice(&payload);
+    (0, 0)
+}
+
+/// Codes `payload`, gives each coded bit its strength with the sign that says its value, decodes that
+/// into `out`, and gives the number and the place.
+///
+/// On every number but 0, `out` is untouched.
+pub fn loopback(
+    a: u64,
+    e: u64,
+    rnti: u16,
+    n_id: u16,
+    payload: &[u8],
+    strengths: &[i32],
+    out: &mut [u8],
+) -> (u8, usize) {
+    if let Some(answer) = refused_loopback(a, e, payload, strengths, out.len()) {
+        return answer;
+    }
+    let mut coded = vec![0; strengths.len()];
+    assert_eq!(encode(a, e, rnti, n_id, payload, &mut coded), (0, 0));
+    decode(a, e, rnti, n_id, &noiseless(&coded, strengths), out)
+}
+
+/// The noiseless row of coded bits with these strengths: positive for 0, negative for 1.
+pub fn noiseless(coded: &[u8], strengths: &[i32]) -> Vec<i32> {
+    let value = |(&bit, &strength): (&u8, &i32)| if bit == 0 { strength } else { -strength };
+    coded.iter().zip(strengths).map(value).collect()
+}
+
 /// The row u: the interleaved row at the information positions, 0 elsewhere.
 ///
 /// # Panics
 /// If (a, e) is not accepted or `payload` is not `a` bits.
 pub fn placed(a: u64, e: u64, rnti: u16, payload: &[u8]) -> Vec<u8> {
-    assert_eq!(refused(a, e, payload, e as usize), None);
+    assert_eq!(refused_coding(a, e, payload, e as usize), None);
     let layout = layout(a, e).expect("the sizes are accepted");
-    let row = parity::attached(payload, rnti);
-    let order = interleaver::order(layout.k);
+    carrying(&layout, &parity::attached(payload, rnti))
+}
+
+/// The row u that carries a row c, whether its parity is right or not.
+pub fn carrying(layout: &Layout, row: &[u8]) -> Vec<u8> {
     let mut u = vec![0; layout.length()];
-    for (&position, &source) in layout.chosen.iter().zip(&order) {
+    for (&position, source) in layout.chosen.iter().zip(interleaver::order(layout.k)) {
         u[position] = row[source];
     }
     u
@@ -93,10 +179,16 @@ pub fn code_word(a: u64, e: u64, rnti: u16, payload: &[u8]) -> Vec<u8> {
 pub fn payload_of(layout: &Layout, d: &[u8], rnti: u16) -> Option<Vec<u8>> {
     let u = transform::transform(d);
     let frozen_clear = (0..u.len()).all(|i| layout.chosen.contains(&i) || u[i] == 0);
+    let row = carried(layout, &u);
+    let payload = row[..layout.k - parity::BITS].to_vec();
+    (frozen_clear && parity::attached(&payload, rnti) == row).then_some(payload)
+}
+
+/// The row c that u carries: its information positions, with the interleaver undone.
+fn carried(layout: &Layout, u: &[u8]) -> Vec<u8> {
     let mut row = vec![0; layout.k];
     for (&position, source) in layout.chosen.iter().zip(interleaver::order(layout.k)) {
         row[source] = u[position];
     }
-    let payload = row[..layout.k - parity::BITS].to_vec();
-    (frozen_clear && parity::attached(&payload, rnti) == row).then_some(payload)
+    row
 }

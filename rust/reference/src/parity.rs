@@ -20,6 +20,14 @@ impl Polynomial {
     const ZERO: Self = Self { high: 0, low: 0 };
     const ONE: Self = Self { high: 0, low: 1 };
 
+    /// The polynomial with these bits as its terms, the last bit being the D^0 term.
+    fn of<'a>(bits: impl Iterator<Item = &'a u8>) -> Self {
+        bits.fold(Self::ZERO, |sum, &bit| {
+            let (high, low) = (0, bit.into());
+            sum.times_power(1).plus(Self { high, low })
+        })
+    }
+
     fn degree(self) -> Option<u32> {
         match (self.high.checked_ilog2(), self.low.checked_ilog2()) {
             (Some(top), _) => Some(128 + top),
@@ -70,15 +78,8 @@ pub fn power_remainder(degree: u32) -> u32 {
 
 /// The parity of a payload, p0 in bit 23 and p23 in bit 0.
 pub fn parity(payload: &[u8]) -> u32 {
-    let ones = [1; BITS];
-    let row = ones.iter().chain(payload);
-    let length = BITS + payload.len();
-    let dividend = row
-        .enumerate()
-        .filter(|&(_, &bit)| bit == 1)
-        .map(|(i, _)| Polynomial::ONE.times_power((length - 1 - i + BITS) as u32))
-        .fold(Polynomial::ZERO, Polynomial::plus);
-    dividend
+    Polynomial::of([1; BITS].iter().chain(payload))
+        .times_power(BITS as u32)
         .remainder(GENERATOR)
         .low
         .try_into()
@@ -90,6 +91,14 @@ pub fn attached(payload: &[u8], rnti: u16) -> Vec<u8> {
     let masked = parity(payload) ^ u32::from(rnti);
     let tail = (0..BITS).rev().map(|i| (masked >> i & 1) as u8);
     payload.iter().copied().chain(tail).collect()
+}
+
+/// Whether all parity bits of a row c are right: with 24 ones in front and the RNTI added again, it
+/// is a multiple of the generator.
+pub fn matches(row: &[u8], rnti: u16) -> bool {
+    let (high, low) = (0, rnti.into());
+    let whole = Polynomial::of([1; BITS].iter().chain(row)).plus(Polynomial { high, low });
+    whole.remainder(GENERATOR) == Polynomial::ZERO
 }
 
 #[cfg(test)]
@@ -132,6 +141,25 @@ mod tests {
                 .map(|(degree, _)| power_remainder(degree as u32))
                 .fold(0, |sum, remainder| sum ^ remainder);
             assert_eq!(sum, 0, "length {length}");
+        }
+    }
+
+    #[test]
+    fn what_is_attached_matches_and_no_single_change_does() {
+        for length in [12, 40, 140] {
+            let payload: Vec<u8> = (0..length).map(|i| (i * i / 3 % 2) as u8).collect();
+            for rnti in [0, 1, 0x8000, 0x4601, 0xFFFF] {
+                let mut row = attached(&payload, rnti);
+                assert!(matches(&row, rnti), "length {length}, RNTI {rnti:#x}");
+                for i in 0..row.len() {
+                    row[i] ^= 1;
+                    assert!(!matches(&row, rnti), "length {length}, bit {i}");
+                    row[i] ^= 1;
+                }
+                for bit in 0..16 {
+                    assert!(!matches(&row, rnti ^ 1 << bit), "RNTI bit {bit}");
+                }
+            }
         }
     }
 

@@ -1,5 +1,5 @@
 //! Channel coding of 5G NR downlink control information (DCI): TS 38.212 7.3.2 to 7.3.4 and
-//! TS 38.211 7.3.2.3, from payload bits to scrambled bits.
+//! TS 38.211 7.3.2.3, from payload bits to scrambled bits, and from soft values back to the payload.
 //!
 //! This is the safe face of the static library that is proved in Rattle. A bit is one byte, 0 or 1.
 //! Nothing is kept between calls, so they may run in several threads at once; nothing is allocated.
@@ -20,7 +20,7 @@ pub struct Numbers {
     pub n_id: u16,
 }
 
-/// Why a call was refused. The first that applies, in this order, is given.
+/// Why a call gave no result. The first that applies, in this order, is given.
 #[derive(Clone, Copy, Debug, PartialEq, Eq)]
 pub enum Refusal {
     /// The payload size A is outside 12..140.
@@ -29,16 +29,19 @@ pub enum Refusal {
     CodedLength,
     /// A + 24 is more than E.
     TooManyBits,
-    /// The payload's length is not A.
+    /// The payload's length is not A, or there are not E soft values or strengths.
     InputLength,
-    /// The output's length is not E.
+    /// The output's length is not E (coding) or A (decoding and loop-back).
     OutputLength,
-    /// A payload byte is above 1; the first such byte stands at this place.
+    /// A payload byte is above 1, a soft value outside -127..127 or a strength outside 1..127; the
+    /// first such entry stands at this place of the input.
     BadEntry(usize),
+    /// The soft values were decoded, and the parity does not match: no payload is accepted.
+    ParityMismatch,
 }
 
 impl Refusal {
-    /// The number of this refusal, 1 to 6, as in the C interface.
+    /// The number of this refusal, 1 to 7, as in the C interface.
     pub fn number(&self) -> u8 {
         match self {
             Refusal::PayloadSize => 1,
@@ -47,6 +50,7 @@ impl Refusal {
             Refusal::InputLength => 4,
             Refusal::OutputLength => 5,
             Refusal::BadEntry(_) => 6,
+            Refusal::ParityMismatch => 7,
         }
     }
 }
@@ -59,9 +63,10 @@ impl fmt::Display for Refusal {
                 f.write_str("the coded length is not among 108, 216, 432, 864, 1728")
             }
             Refusal::TooManyBits => f.write_str("payload and parity have more bits than are sent"),
-            Refusal::InputLength => f.write_str("the payload's length is not the payload size"),
-            Refusal::OutputLength => f.write_str("the output's length is not the coded length"),
-            Refusal::BadEntry(place) => write!(f, "payload byte {place} is neither 0 nor 1"),
+            Refusal::InputLength => f.write_str("the input's length does not fit the sizes"),
+            Refusal::OutputLength => f.write_str("the output's length does not fit the sizes"),
+            Refusal::BadEntry(place) => write!(f, "entry {place} of the input is out of range"),
+            Refusal::ParityMismatch => f.write_str("the parity does not match"),
         }
     }
 }
@@ -76,6 +81,30 @@ unsafe extern "C" {
         n_id: u16,
         payload: *const u8,
         payload_len: usize,
+        out: *mut u8,
+        out_len: usize,
+    ) -> u64;
+
+    fn spelt_decode(
+        a: u64,
+        e: u64,
+        rnti: u16,
+        n_id: u16,
+        soft: *const i32,
+        soft_len: usize,
+        out: *mut u8,
+        out_len: usize,
+    ) -> u64;
+
+    fn spelt_loopback(
+        a: u64,
+        e: u64,
+        rnti: u16,
+        n_id: u16,
+        payload: *const u8,
+        payload_len: usize,
+        strengths: *const i32,
+        strengths_len: usize,
         out: *mut u8,
         out_len: usize,
     ) -> u64;
@@ -105,7 +134,7 @@ unsafe extern "C" {
 /// ```
 ///
 /// # Errors
-/// The first [`Refusal`] that applies.
+/// The first [`Refusal`] that applies; never [`Refusal::ParityMismatch`].
 pub fn encode(numbers: &Numbers, payload: &[u8], out: &mut [u8]) -> Result<(), Refusal> {
     // SAFETY: both pointers come from slices, so they are not null, are valid for the lengths
     // handed over and do not overlap. Nothing else is asked of a caller.
@@ -121,11 +150,110 @@ pub fn encode(numbers: &Numbers, payload: &[u8], out: &mut [u8]) -> Result<(), R
             out.len(),
         )
     };
-    read(answer)
+    read(answer, 6)
 }
 
-/// Takes apart an answer of the C interface: the number plus 256 times the place.
-fn read(answer: u64) -> Result<(), Refusal> {
+/// Reads the payload back from soft values, and checks its parity.
+///
+/// `soft` has a value for each coded bit, in the order of [`encode`]'s output and still scrambled: its
+/// log-likelihood ratio, scaled to -127..127. Positive leans to bit 0, negative to bit 1, and 0 says
+/// nothing. Where the parity matches, `out` takes the payload.
+///
+/// Any numbers, lengths and values may be handed in. On a refusal `out` is untouched.
+///
+/// ```
+/// use speltfeather::{Numbers, Refusal, decode, encode};
+///
+/// let numbers = Numbers { a: 12, e: 108, rnti: 0x4601, n_id: 500 };
+/// let payload = [1, 0, 1, 1, 0, 0, 1, 0, 1, 1, 1, 0];
+/// let mut coded = [0; 108];
+/// encode(&numbers, &payload, &mut coded)?;
+///
+/// // As received: of uneven strength, one value missing and one on the wrong side.
+/// let mut soft: Vec<i32> = coded.iter().map(|&bit| if bit == 0 { 90 } else { -20 }).collect();
+/// soft[7] = 0;
+/// soft[50] = -soft[50] / 5;
+/// let mut out = [0; 12];
+/// decode(&numbers, &soft, &mut out)?;
+/// assert_eq!(out, payload);
+///
+/// // A message for another RNTI is not taken.
+/// let other = Numbers { rnti: 0x4602, ..numbers };
+/// assert_eq!(decode(&other, &soft, &mut out), Err(Refusal::ParityMismatch));
+/// soft[107] = 128;
+/// assert_eq!(decode(&numbers, &soft, &mut out), Err(Refusal::BadEntry(107)));
+/// # Ok::<(), Refusal>(())
+/// ```
+///
+/// # Errors
+/// The first [`Refusal`] that applies.
+pub fn decode(numbers: &Numbers, soft: &[i32], out: &mut [u8]) -> Result<(), Refusal> {
+    // SAFETY: as in `encode`.
+    let answer = unsafe {
+        spelt_decode(
+            numbers.a,
+            numbers.e,
+            numbers.rnti,
+            numbers.n_id,
+            soft.as_ptr(),
+            soft.len(),
+            out.as_mut_ptr(),
+            out.len(),
+        )
+    };
+    read(answer, 7)
+}
+
+/// Codes `payload`, gives each coded bit its strength, with the sign that says its value, and decodes
+/// these soft values into `out`: a self-test for the start-up of a tester.
+///
+/// Wherever the call is not refused, `out` then holds the payload. The place of a bad entry counts
+/// through the payload and then the strengths. On a refusal `out` is untouched.
+///
+/// ```
+/// use speltfeather::{Numbers, Refusal, loopback};
+///
+/// let numbers = Numbers { a: 40, e: 216, rnti: 0x4601, n_id: 500 };
+/// let payload = [1; 40];
+/// let mut strengths: Vec<i32> = (1..=127).cycle().take(216).collect();
+/// let mut out = [0; 40];
+/// loopback(&numbers, &payload, &strengths, &mut out)?;
+/// assert_eq!(out, payload);
+///
+/// strengths[3] = 0;
+/// assert_eq!(loopback(&numbers, &payload, &strengths, &mut out), Err(Refusal::BadEntry(40 + 3)));
+/// # Ok::<(), Refusal>(())
+/// ```
+///
+/// # Errors
+/// The first [`Refusal`] that applies; never [`Refusal::ParityMismatch`].
+pub fn loopback(
+    numbers: &Numbers,
+    payload: &[u8],
+    strengths: &[i32],
+    out: &mut [u8],
+) -> Result<(), Refusal> {
+    // SAFETY: as in `encode`; the two inputs, which may overlap, are only read.
+    let answer = unsafe {
+        spelt_loopback(
+            numbers.a,
+            numbers.e,
+            numbers.rnti,
+            numbers.n_id,
+            payload.as_ptr(),
+            payload.len(),
+            strengths.as_ptr(),
+            strengths.len(),
+            out.as_mut_ptr(),
+            out.len(),
+        )
+    };
+    read(answer, 6)
+}
+
+/// Takes apart an answer of the C interface: the number, which is at most `last` for the call that
+/// gave it, plus 256 times the place.
+fn read(answer: u64, last: u64) -> Result<(), Refusal> {
     match (answer & 255, answer >> 8) {
         (0, 0) => Ok(()),
         (1, 0) => Err(Refusal::PayloadSize),
@@ -134,10 +262,9 @@ fn read(answer: u64) -> Result<(), Refusal> {
         (4, 0) => Err(Refusal::InputLength),
         (5, 0) => Err(Refusal::OutputLength),
         (6, place) => Err(Refusal::BadEntry(place as usize)),
+        (7, 0) if last == 7 => Err(Refusal::ParityMismatch),
         (number, place) => {
-            panic!(
-                "the library answered {number} with place {place}, which spelt_encode never does"
-            )
+            panic!("the library answered {number} with place {place}, which this call never does")
         }
     }
 }
@@ -148,35 +275,43 @@ mod tests {
 
     #[test]
     fn each_refusal_has_its_number() {
-        for number in 1..=5 {
-            assert_eq!(u64::from(read(number).unwrap_err().number()), number);
+        for number in [1, 2, 3, 4, 5, 7] {
+            assert_eq!(u64::from(read(number, 7).unwrap_err().number()), number);
         }
-        assert_eq!(read(0), Ok(()));
-        assert_eq!(read(6), Err(Refusal::BadEntry(0)));
-        assert_eq!(read(6 + 256 * 139), Err(Refusal::BadEntry(139)));
-        assert_eq!(Refusal::BadEntry(139).number(), 6);
+        assert_eq!(read(0, 6), Ok(()));
+        assert_eq!(read(6, 6), Err(Refusal::BadEntry(0)));
+        assert_eq!(read(6 + 256 * 1727, 6), Err(Refusal::BadEntry(1727)));
+        assert_eq!(Refusal::BadEntry(1727).number(), 6);
+        assert_eq!(read(7, 7), Err(Refusal::ParityMismatch));
     }
 
     #[test]
     fn refusals_say_why() {
         assert_eq!(
             Refusal::BadEntry(7).to_string(),
-            "payload byte 7 is neither 0 nor 1"
+            "entry 7 of the input is out of range"
         );
-        let texts: std::collections::HashSet<String> =
-            (1..=6).map(|n| read(n).unwrap_err().to_string()).collect();
-        assert_eq!(texts.len(), 6);
+        let texts: std::collections::HashSet<String> = (1..=7)
+            .map(|n| read(n, 7).unwrap_err().to_string())
+            .collect();
+        assert_eq!(texts.len(), 7);
     }
 
     #[test]
     #[should_panic(expected = "answered 7 with place 0")]
-    fn number_of_decoding_is_not_taken() {
-        let _ = read(7);
+    fn parity_mismatch_is_taken_from_decoding_alone() {
+        let _ = read(7, 6);
+    }
+
+    #[test]
+    #[should_panic(expected = "answered 7 with place 1")]
+    fn parity_mismatch_with_a_place_is_not_taken() {
+        let _ = read(7 + 256, 7);
     }
 
     #[test]
     #[should_panic(expected = "answered 1 with place 3")]
     fn place_without_bad_entry_is_not_taken() {
-        let _ = read(1 + 256 * 3);
+        let _ = read(1 + 256 * 3, 6);
     }
 }

@@ -1,4 +1,12 @@
-//! What the comparisons share: random numbers, and a call that is put to both coders.
+//! What the comparisons share: random numbers, calls that are put to both programs, and rows of soft
+//! values.
+
+pub mod calls;
+pub mod faults;
+pub mod rows;
+pub mod trials;
+
+pub use calls::{Call, Decode, Encode, Loopback, Outcome};
 
 use speltfeather::Numbers;
 
@@ -37,6 +45,33 @@ impl Random {
     pub fn bytes(&mut self, count: usize) -> Vec<u8> {
         (0..count).map(|_| self.u64() as u8).collect()
     }
+
+    /// A number from `least` to `most`.
+    pub fn between(&mut self, least: i32, most: i32) -> i32 {
+        least + self.below((most - least + 1) as usize) as i32
+    }
+
+    /// 1 or -1.
+    pub fn sign(&mut self) -> i32 {
+        self.pick(&[1, -1])
+    }
+
+    /// A number from 0 to 1, never 0.
+    fn fraction(&mut self) -> f64 {
+        ((self.u64() >> 11) + 1) as f64 / (1u64 << 53) as f64
+    }
+
+    /// A number of the normal distribution with mean 0 and variance 1, by Box and Muller's method.
+    pub fn normal(&mut self) -> f64 {
+        let radius = (-2.0 * self.fraction().ln()).sqrt();
+        radius * (std::f64::consts::TAU * self.fraction()).cos()
+    }
+
+    /// Numbers for sizes, with any RNTI and identity.
+    pub fn numbers(&mut self, a: u64, e: u64) -> Numbers {
+        let (rnti, n_id) = (self.u16(), self.u16());
+        Numbers { a, e, rnti, n_id }
+    }
 }
 
 /// All accepted pairs (A, E).
@@ -48,68 +83,9 @@ pub fn accepted_pairs() -> Vec<(u64, u64)> {
         .collect()
 }
 
-/// A call, with what the output buffer holds before it.
-#[derive(Clone, Debug)]
-pub struct Call {
-    pub numbers: Numbers,
-    pub payload: Vec<u8>,
-    pub out: Vec<u8>,
-}
-
-/// What a call gives: the number, the place, and the output buffer afterwards.
-#[derive(Clone, Debug, PartialEq, Eq)]
-pub struct Outcome {
-    pub number: u8,
-    pub place: usize,
-    pub out: Vec<u8>,
-}
-
-impl Call {
-    /// A call for `payload` with lengths that fit and a buffer of random bytes.
-    pub fn fitting(numbers: Numbers, payload: Vec<u8>, random: &mut Random) -> Self {
-        let out = random.bytes(numbers.e as usize);
-        Self {
-            numbers,
-            payload,
-            out,
-        }
-    }
-
-    /// What the library gives. The buffer stands between guards, which must not change either.
-    pub fn library(&self) -> Outcome {
-        const GUARD: [u8; 64] = [0x5A; 64];
-        let mut room = [&GUARD[..], &self.out, &GUARD].concat();
-        let end = GUARD.len() + self.out.len();
-        let out = &mut room[GUARD.len()..end];
-        let (number, place) = match speltfeather::encode(&self.numbers, &self.payload, out) {
-            Ok(()) => (0, 0),
-            Err(refusal @ speltfeather::Refusal::BadEntry(place)) => (refusal.number(), place),
-            Err(refusal) => (refusal.number(), 0),
-        };
-        let out = out.to_vec();
-        assert_eq!(room[..GUARD.len()], GUARD, "written before the buffer");
-        assert_eq!(room[end..], GUARD, "written behind the buffer");
-        Outcome { number, place, out }
-    }
-
-    /// What the reference gives.
-    pub fn reference(&self) -> Outcome {
-        let Numbers { a, e, rnti, n_id } = self.numbers;
-        let mut out = self.out.clone();
-        let (number, place) = reference::encode(a, e, rnti, n_id, &self.payload, &mut out);
-        Outcome { number, place, out }
-    }
-
-    /// What a refusal must give: the buffer as it was.
-    pub fn refused(&self, number: u8, place: usize) -> Outcome {
-        let out = self.out.clone();
-        Outcome { number, place, out }
-    }
-}
-
 /// The bits that the library sends for a call that it must accept, with the scrambling undone.
 pub fn sent_bits(numbers: Numbers, payload: &[u8], random: &mut Random) -> Vec<u8> {
-    let outcome = Call::fitting(numbers, payload.to_vec(), random).library();
+    let outcome = Encode::fitting(numbers, payload.to_vec(), random).library();
     assert_eq!((outcome.number, outcome.place), (0, 0), "{numbers:?}");
     reference::scrambling::scrambled(&outcome.out, numbers.n_id)
 }

@@ -1,24 +1,28 @@
 //! Every accepted pair (A, E), with random and extreme payloads and numbers.
 
-use conformance::{Call, Random, accepted_pairs};
+use conformance::{Call, Encode, Random, accepted_pairs};
 use speltfeather::Numbers;
 
 const SEED: u64 = 0x38212;
 const RANDOM_CALLS: usize = 8;
 
 /// The payloads and numbers that are tried for a pair.
-fn calls(a: u64, e: u64, random: &mut Random) -> Vec<Call> {
+fn calls(a: u64, e: u64, random: &mut Random) -> Vec<Encode> {
     let mut calls = Vec::new();
     for bit in [0, 1] {
         for (rnti, n_id) in [(0, 0), (0, 0xFFFF), (0xFFFF, 0), (0xFFFF, 0xFFFF)] {
             let numbers = Numbers { a, e, rnti, n_id };
-            calls.push(Call::fitting(numbers, vec![bit; a as usize], random));
+            calls.push(Encode::fitting(numbers, vec![bit; a as usize], random));
         }
     }
     for _ in 0..RANDOM_CALLS {
         let (rnti, n_id) = (random.u16(), random.u16());
         let payload = random.bits(a as usize);
-        calls.push(Call::fitting(Numbers { a, e, rnti, n_id }, payload, random));
+        calls.push(Encode::fitting(
+            Numbers { a, e, rnti, n_id },
+            payload,
+            random,
+        ));
     }
     calls
 }
@@ -57,7 +61,7 @@ fn each_payload_bit_counts() {
             let mut payload = vec![0; a as usize];
             payload[place] = 1;
             let (rnti, n_id) = (random.u16(), random.u16());
-            let call = Call::fitting(Numbers { a, e, rnti, n_id }, payload, &mut random);
+            let call = Encode::fitting(Numbers { a, e, rnti, n_id }, payload, &mut random);
             let outcome = call.library();
             assert_eq!(outcome.number, 0, "seed {SEED:#x}, {call:?}");
             assert_eq!(outcome, call.reference(), "seed {SEED:#x}, {call:?}");

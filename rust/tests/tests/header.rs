@@ -1,6 +1,7 @@
 //! The header, as C and C++ compilers read it, declares what the archive exports.
 
 use conformance::Random;
+use conformance::rows::strengths;
 use std::env;
 use std::path::{Path, PathBuf};
 use std::process::Command;
@@ -36,35 +37,141 @@ fn build(compiler: &str, language: &[&str], name: &str) -> PathBuf {
     program
 }
 
-/// A call of the program must print what the reference gives.
-fn assert_call(program: &Path, a: u64, e: u64, payload: &[u8], out_len: usize) {
-    let (rnti, n_id) = (0x4601, 0xFFFF);
-    let mut out = vec![9; out_len];
-    let (number, place) = reference::encode(a, e, rnti, n_id, payload, &mut out);
-    let digits = |bytes: &[u8]| -> String { bytes.iter().map(|b| b.to_string()).collect() };
-    let printed = Command::new(program)
-        .args([a, e, rnti.into(), n_id.into()].map(|number| number.to_string()))
-        .args([digits(payload), out_len.to_string()])
+/// What the program prints for these arguments.
+fn printed(program: &Path, arguments: &[String]) -> String {
+    let output = Command::new(program)
+        .args(arguments)
         .output()
         .expect("the program runs");
-    assert!(printed.status.success());
-    let expected = format!("{number} {place} {}\n", digits(&out));
-    assert_eq!(String::from_utf8_lossy(&printed.stdout), expected);
+    assert!(output.status.success(), "{arguments:?}");
+    String::from_utf8(output.stdout).expect("text")
+}
+
+/// A list with a comma behind each entry.
+fn list<T: ToString>(entries: &[T]) -> String {
+    entries
+        .iter()
+        .map(|entry| entry.to_string() + ",")
+        .collect()
+}
+
+/// A call of the program must print what the reference gives for it.
+fn assert_call(
+    program: &Path,
+    name: &str,
+    (a, e, out_len): (u64, u64, usize),
+    lists: &[String],
+    reference: impl FnOnce(u16, u16, &mut [u8]) -> (u8, usize),
+) {
+    let (rnti, n_id) = (0x4601, 0xFFFF);
+    let mut out = vec![9; out_len];
+    let (number, place) = reference(rnti, n_id, &mut out);
+    let numbers = [a, e, rnti.into(), n_id.into(), out_len as u64].map(|x| x.to_string());
+    let arguments = [&[name.to_string()], &numbers[..], lists].concat();
+    let digits: String = out.iter().map(u8::to_string).collect();
+    assert_eq!(
+        printed(program, &arguments),
+        format!("{number} {place} {digits}\n"),
+        "{arguments:?}"
+    );
+}
+
+fn assert_encode(program: &Path, a: u64, e: u64, payload: &[u8], out_len: usize) {
+    let lists = [list(payload)];
+    assert_call(
+        program,
+        "encode",
+        (a, e, out_len),
+        &lists,
+        |rnti, n_id, out| reference::encode(a, e, rnti, n_id, payload, out),
+    );
+}
+
+fn assert_decode(program: &Path, a: u64, e: u64, soft: &[i32], out_len: usize) {
+    let lists = [list(soft)];
+    assert_call(
+        program,
+        "decode",
+        (a, e, out_len),
+        &lists,
+        |rnti, n_id, out| reference::decode(a, e, rnti, n_id, soft, out),
+    );
+}
+
+fn assert_loopback(program: &Path, a: u64, e: u64, inputs: (&[u8], &[i32]), out_len: usize) {
+    let (payload, strengths) = inputs;
+    let lists = [list(payload), list(strengths)];
+    assert_call(
+        program,
+        "loopback",
+        (a, e, out_len),
+        &lists,
+        |rnti, n_id, out| reference::loopback(a, e, rnti, n_id, payload, strengths, out),
+    );
+}
+
+const PAIRS: [(u64, u64); 5] = [(12, 108), (84, 108), (70, 216), (140, 432), (37, 1728)];
+
+fn assert_coding(program: &Path, random: &mut Random) {
+    for (a, e) in PAIRS {
+        assert_encode(program, a, e, &random.bits(a as usize), e as usize);
+    }
+    let mut payload = random.bits(40);
+    assert_encode(program, u64::MAX, 216, &payload, 216);
+    assert_encode(program, 40, 217, &payload, 217);
+    assert_encode(program, 41, 216, &payload, 216);
+    assert_encode(program, 40, 216, &payload, 0);
+    payload[33] = 2;
+    assert_encode(program, 40, 216, &payload, 216);
+}
+
+fn assert_decoding(program: &Path, random: &mut Random) {
+    for (a, e) in PAIRS {
+        let mut coded = vec![0; e as usize];
+        let payload = random.bits(a as usize);
+        let answer = reference::encode(a, e, 0x4601, 0xFFFF, &payload, &mut coded);
+        assert_eq!(answer, (0, 0));
+        let soft = reference::noiseless(&coded, &strengths(e as usize, random));
+        assert_decode(program, a, e, &soft, a as usize);
+        let noise: Vec<i32> = soft.iter().map(|value| value * random.sign()).collect();
+        assert_decode(program, a, e, &noise, a as usize);
+    }
+    let mut soft = vec![-127; 216];
+    assert_decode(program, u64::MAX, 216, &soft, 40);
+    assert_decode(program, 40, 217, &soft, 40);
+    assert_decode(program, 40, 108, &soft, 40);
+    assert_decode(program, 40, 216, &soft, 216);
+    soft[215] = i32::MIN;
+    assert_decode(program, 40, 216, &soft, 40);
+    soft[33] = 128;
+    assert_decode(program, 40, 216, &soft, 40);
+}
+
+fn assert_loopbacks(program: &Path, random: &mut Random) {
+    for (a, e) in PAIRS {
+        let (payload, strengths) = (random.bits(a as usize), strengths(e as usize, random));
+        assert_loopback(program, a, e, (&payload, &strengths), a as usize);
+    }
+    let (mut payload, mut strengths) = (random.bits(40), vec![1; 216]);
+    assert_loopback(program, 141, 216, (&payload, &strengths), 40);
+    assert_loopback(program, 40, 215, (&payload, &strengths), 40);
+    assert_loopback(program, 40, 108, (&payload, &strengths), 40);
+    assert_loopback(program, 41, 216, (&payload, &strengths), 41);
+    assert_loopback(program, 40, 216, (&payload, &strengths), 216);
+    strengths[7] = 128;
+    assert_loopback(program, 40, 216, (&payload, &strengths), 40);
+    payload[39] = 2;
+    assert_loopback(program, 40, 216, (&payload, &strengths), 40);
 }
 
 fn assert_language(compiler: &str, language: &[&str], name: &str) {
     let program = build(compiler, language, name);
+    let numbers = printed(&program, &["numbers".into()]);
+    assert_eq!(numbers, "0 1 2 3 4 5 6 7\n");
     let mut random = Random::new(SEED);
-    for (a, e) in [(12, 108), (84, 108), (70, 216), (140, 432), (37, 1728)] {
-        assert_call(&program, a, e, &random.bits(a as usize), e as usize);
-    }
-    let mut payload = random.bits(40);
-    assert_call(&program, u64::MAX, 216, &payload, 216);
-    assert_call(&program, 40, 217, &payload, 217);
-    assert_call(&program, 41, 216, &payload, 216);
-    assert_call(&program, 40, 216, &payload, 0);
-    payload[33] = 2;
-    assert_call(&program, 40, 216, &payload, 216);
+    assert_coding(&program, &mut random);
+    assert_decoding(&program, &mut random);
+    assert_loopbacks(&program, &mut random);
 }
 
 #[test]

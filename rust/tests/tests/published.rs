@@ -1,7 +1,8 @@
 //! The library's output against published words and against the scope paper's examples.
 
-use conformance::{Call, Random, sent_bits};
-use reference::{Kind, Layout, construction, layout, published, rate_matching, selected};
+use conformance::{Call, Decode, Encode, Random, sent_bits};
+use reference::{Kind, Layout, construction, layout, noiseless, published, rate_matching};
+use reference::{scrambling, selected};
 use speltfeather::Numbers;
 
 const RNTI: u16 = 0x4601;
@@ -38,6 +39,54 @@ fn hardware_word_is_sent() {
 }
 
 #[test]
+fn hardware_word_is_read() {
+    let mut random = Random::new(SEED);
+    let sent = rate_matching::matched(
+        &published::hardware_layout(),
+        &published::hardware_code_word(),
+    );
+    for n_id in IDENTITIES {
+        let numbers = Numbers {
+            a: 78,
+            e: 108,
+            rnti: 0,
+            n_id,
+        };
+        let soft = noiseless(&scrambling::scrambled(&sent, n_id), &[1; 108]);
+        let outcome = Decode::fitting(numbers, soft, &mut random).compared();
+        assert_eq!(outcome.number, 0, "n_ID {n_id}");
+        assert_eq!(
+            Some(outcome.out),
+            published::hardware_payload(),
+            "n_ID {n_id}"
+        );
+    }
+}
+
+#[test]
+fn recorded_message_is_read_through_errors() {
+    let mut random = Random::new(SEED);
+    let payload = published::recorded_payload();
+    for n_id in IDENTITIES {
+        let numbers = Numbers {
+            a: 37,
+            e: 432,
+            rnti: published::SI_RNTI,
+            n_id,
+        };
+        let call = Encode::fitting(numbers, payload.clone(), &mut random);
+        let mut soft = noiseless(&call.library().out, &[60; 432]);
+        soft.iter_mut().step_by(9).for_each(|value| *value /= -3);
+        soft.iter_mut()
+            .skip(1)
+            .step_by(5)
+            .for_each(|value| *value = 0);
+        let outcome = Decode::fitting(numbers, soft, &mut random).compared();
+        assert_eq!((outcome.number, &outcome.out), (0, &payload), "n_ID {n_id}");
+    }
+}
+
+#[test]
 fn recorded_message_is_coded() {
     let mut random = Random::new(SEED);
     let payload = published::recorded_payload();
@@ -49,7 +98,7 @@ fn recorded_message_is_coded() {
             rnti,
             n_id,
         };
-        let call = Call::fitting(numbers, payload.clone(), &mut random);
+        let call = Encode::fitting(numbers, payload.clone(), &mut random);
         let outcome = call.library();
         assert_eq!(outcome.number, 0);
         assert_eq!(outcome, call.reference(), "n_ID {n_id}");

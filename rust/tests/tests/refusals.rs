@@ -1,38 +1,17 @@
-//! Refusals: each at its boundaries, in their order, with the buffer untouched.
+//! Refusals of coding: each at its boundaries, in their order, with the buffer untouched.
 
-use conformance::{Call, Random};
+use conformance::faults::{FAR, Faults, length};
+use conformance::{Call, Encode, Random};
 use speltfeather::Numbers;
 
 const SEED: u64 = 0x38211;
 
-/// Sizes that a coder with narrower numbers, or one that adds without care, would take for others.
-const FAR: [u64; 8] = [
-    1 << 8,
-    1 << 16,
-    1 << 32,
-    1 << 63,
-    u64::MAX - 23,
-    u64::MAX - 12,
-    u64::MAX - 1,
-    u64::MAX,
-];
-
-fn call(a: u64, e: u64, payload: Vec<u8>, out_len: usize, random: &mut Random) -> Call {
+fn call(a: u64, e: u64, payload: Vec<u8>, out_len: usize, random: &mut Random) -> Encode {
     let (rnti, n_id) = (random.u16(), random.u16());
-    Call {
+    Encode {
         numbers: Numbers { a, e, rnti, n_id },
         payload,
         out: random.bytes(out_len),
-    }
-}
-
-/// Asserts that a call is answered as written here and as the reference answers it.
-fn expect(call: &Call, number: u8, place: usize) {
-    let outcome = call.library();
-    assert_eq!((outcome.number, outcome.place), (number, place), "{call:?}");
-    assert_eq!(outcome, call.reference(), "{call:?}");
-    if number != 0 {
-        assert_eq!(outcome, call.refused(number, place), "{call:?}");
     }
 }
 
@@ -40,7 +19,7 @@ fn expect(call: &Call, number: u8, place: usize) {
 fn expect_sizes(a: u64, e: u64, number: u8, random: &mut Random) {
     let (input, output) = (a as u8 as usize, e as u16 as usize % 2048);
     let payload = random.bits(input);
-    expect(&call(a, e, payload, output, random), number, 0);
+    call(a, e, payload, output, random).expect(number, 0);
 }
 
 #[test]
@@ -102,7 +81,7 @@ fn input_length() {
         let fits = a as usize;
         for input in [0, 1, fits - 1, fits + 1, fits + 256, e as usize] {
             let payload = random.bits(input);
-            expect(&call(a, e, payload, e as usize, &mut random), 4, 0);
+            call(a, e, payload, e as usize, &mut random).expect(4, 0);
         }
     }
 }
@@ -115,7 +94,7 @@ fn output_length() {
             let fits = e as usize;
             for output in [0, 1, a as usize, fits - 1, fits + 1, fits + 256] {
                 let payload = random.bits(a as usize);
-                expect(&call(a, e, payload, output, &mut random), 5, 0);
+                call(a, e, payload, output, &mut random).expect(5, 0);
             }
         }
     }
@@ -131,13 +110,13 @@ fn bad_entry() {
                 let mut payload = random.bits(a as usize);
                 payload[place] = bad;
                 let one = call(a, e, payload.clone(), e as usize, &mut random);
-                expect(&one, 6, place);
+                one.expect(6, place);
 
                 // With more behind it, the first is given.
                 payload[last] = 255;
                 payload[(place + last).div_ceil(2)] = 2;
                 payload[place] = bad;
-                expect(&call(a, e, payload, e as usize, &mut random), 6, place);
+                call(a, e, payload, e as usize, &mut random).expect(6, place);
             }
         }
     }
@@ -145,45 +124,27 @@ fn bad_entry() {
 
 #[test]
 fn first_that_applies_is_given() {
-    // For each set of refusals, calls to which exactly these apply.
-    let sizes = [
-        (40, 108), // none of 1 to 3
-        (11, 108),
-        (40, 109),
-        (11, 107),
-        (85, 108),
-        (141, 108),
-        (85, 107),
-        (141, 107), // all of 1 to 3
-    ];
     let mut random = Random::new(SEED);
     let mut tried = [0; 7];
-    for set in 0..64usize {
-        let applies = |number: usize| set >> (number - 1) & 1 == 1;
-        let (a, e) = sizes[set & 7];
+    for faults in Faults::sets() {
+        let (a, e) = faults.sizes();
         for (shorter, place) in [(true, 0), (true, 5), (false, 0), (false, 5)] {
-            let length = |fits: u64, wrong: bool| match (wrong, shorter) {
-                (false, _) => fits as usize,
-                (true, true) => fits as usize - 1,
-                (true, false) => fits as usize + 1,
-            };
-            let mut payload = random.bits(length(a, applies(4)));
-            if applies(6) {
+            let mut payload = random.bits(length(a, faults.has(4), shorter));
+            if faults.has(6) {
                 payload[place] = 2 + (random.u64() % 254) as u8;
             }
-            let out_len = length(e, applies(5));
-            let number = (1..=6).find(|&number| applies(number)).unwrap_or(0);
+            let out_len = length(e, faults.has(5), shorter);
+            let number = faults.first().unwrap_or(0);
             let carried = if number == 6 { place } else { 0 };
-            let call = call(a, e, payload, out_len, &mut random);
-            expect(&call, number as u8, carried);
-            tried[number] += 1;
+            call(a, e, payload, out_len, &mut random).expect(number, carried);
+            tried[usize::from(number)] += 1;
         }
     }
     assert_eq!(tried, [4, 128, 64, 32, 16, 8, 4]);
 }
 
 /// A call that is accepted or misses being so by a little, in one way or several.
-fn near_accepted(random: &mut Random) -> Call {
+fn near_accepted(random: &mut Random) -> Encode {
     let lengths = [108, 216, 432, 864, 1728];
     let mut a = 12 + random.below(129) as u64;
     let mut e = random.pick(&lengths);

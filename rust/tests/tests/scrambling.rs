@@ -1,6 +1,6 @@
 //! The scrambling identity, and that calls leave nothing behind.
 
-use conformance::{Call, Outcome, Random};
+use conformance::{Call, Encode, Outcome, Random};
 use reference::{CODED_LENGTHS, scrambling};
 use speltfeather::Numbers;
 use std::sync::Barrier;
@@ -13,12 +13,12 @@ fn sum(one: &[u8], other: &[u8]) -> Vec<u8> {
 }
 
 /// An accepted call with random numbers.
-fn accepted_call(random: &mut Random) -> Call {
+fn accepted_call(random: &mut Random) -> Encode {
     let a = 12 + random.below(73);
     let e = random.pick(&CODED_LENGTHS);
     let (rnti, n_id) = (random.u16(), random.u16());
     let payload = random.bits(a);
-    Call::fitting(
+    Encode::fitting(
         Numbers {
             a: a as u64,
             e,
@@ -65,8 +65,8 @@ fn identities_differ_by_their_gold_sequences() {
 #[test]
 fn nothing_is_kept_between_calls() {
     let mut random = Random::new(SEED);
-    let calls: Vec<Call> = (0..40).map(|_| accepted_call(&mut random)).collect();
-    let first: Vec<Outcome> = calls.iter().map(Call::library).collect();
+    let calls: Vec<Encode> = (0..40).map(|_| accepted_call(&mut random)).collect();
+    let first: Vec<Outcome> = calls.iter().map(Encode::library).collect();
     for round in 0..200 {
         // Other calls and refusals in between, and another content of the buffer.
         let chosen = random.below(calls.len());
@@ -77,7 +77,7 @@ fn nothing_is_kept_between_calls() {
         assert_eq!(bad.library(), bad.refused(6, 3), "round {round}");
         assert_eq!(again.library(), first[chosen], "round {round}, {again:?}");
     }
-    let expected: Vec<Outcome> = calls.iter().map(Call::reference).collect();
+    let expected: Vec<Outcome> = calls.iter().map(Encode::reference).collect();
     assert_eq!(first, expected);
 }
 
@@ -87,8 +87,8 @@ fn threads_do_not_disturb_each_other() {
     let start = Barrier::new(2);
     let work = |seed| {
         let mut random = Random::new(seed);
-        let calls: Vec<Call> = (0..10).map(|_| accepted_call(&mut random)).collect();
-        let expected: Vec<Outcome> = calls.iter().map(Call::reference).collect();
+        let calls: Vec<Encode> = (0..10).map(|_| accepted_call(&mut random)).collect();
+        let expected: Vec<Outcome> = calls.iter().map(Encode::reference).collect();
         start.wait();
         (0..ROUNDS)
             .filter(|round| calls[round % 10].library() == expected[round % 10])

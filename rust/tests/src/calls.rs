@@ -1,0 +1,178 @@
+//! Calls that are put to both programs.
+
+use crate::Random;
+use speltfeather::{Numbers, Refusal};
+use std::fmt::Debug;
+
+/// What a call gives: the number, the place, and the output buffer afterwards.
+#[derive(Clone, Debug, PartialEq, Eq)]
+pub struct Outcome {
+    pub number: u8,
+    pub place: usize,
+    pub out: Vec<u8>,
+}
+
+/// A call, with what the output buffer holds before it.
+pub trait Call: Debug {
+    fn out(&self) -> &[u8];
+
+    /// Puts the call to the library.
+    fn ask_library(&self, out: &mut [u8]) -> Result<(), Refusal>;
+
+    /// Puts the call to the reference.
+    fn ask_reference(&self, out: &mut [u8]) -> (u8, usize);
+
+    /// What the library gives. The buffer stands between guards, which must not change either.
+    fn library(&self) -> Outcome {
+        const GUARD: [u8; 64] = [0x5A; 64];
+        let mut room = [&GUARD[..], self.out(), &GUARD].concat();
+        let end = GUARD.len() + self.out().len();
+        let out = &mut room[GUARD.len()..end];
+        let (number, place) = match self.ask_library(out) {
+            Ok(()) => (0, 0),
+            Err(refusal @ Refusal::BadEntry(place)) => (refusal.number(), place),
+            Err(refusal) => (refusal.number(), 0),
+        };
+        let out = out.to_vec();
+        assert_eq!(room[..GUARD.len()], GUARD, "written before the buffer");
+        assert_eq!(room[end..], GUARD, "written behind the buffer");
+        Outcome { number, place, out }
+    }
+
+    /// What the reference gives.
+    fn reference(&self) -> Outcome {
+        let mut out = self.out().to_vec();
+        let (number, place) = self.ask_reference(&mut out);
+        Outcome { number, place, out }
+    }
+
+    /// What both give; that they differ is an error.
+    fn compared(&self) -> Outcome {
+        let outcome = self.library();
+        assert_eq!(outcome, self.reference(), "{self:?}");
+        outcome
+    }
+
+    /// What a refusal must give: the buffer as it was.
+    fn refused(&self, number: u8, place: usize) -> Outcome {
+        let out = self.out().to_vec();
+        Outcome { number, place, out }
+    }
+
+    /// Asserts that both give this number and place, and leave the buffer alone if it is a refusal.
+    fn expect(&self, number: u8, place: usize) {
+        let outcome = self.compared();
+        assert_eq!((outcome.number, outcome.place), (number, place), "{self:?}");
+        if number != 0 {
+            assert_eq!(outcome, self.refused(number, place), "{self:?}");
+        }
+    }
+}
+
+/// A message to be coded.
+#[derive(Clone, Debug)]
+pub struct Encode {
+    pub numbers: Numbers,
+    pub payload: Vec<u8>,
+    pub out: Vec<u8>,
+}
+
+impl Encode {
+    /// A call with an output that fits and holds random bytes.
+    pub fn fitting(numbers: Numbers, payload: Vec<u8>, random: &mut Random) -> Self {
+        let out = random.bytes(numbers.e as usize);
+        Self {
+            numbers,
+            payload,
+            out,
+        }
+    }
+}
+
+impl Call for Encode {
+    fn out(&self) -> &[u8] {
+        &self.out
+    }
+
+    fn ask_library(&self, out: &mut [u8]) -> Result<(), Refusal> {
+        speltfeather::encode(&self.numbers, &self.payload, out)
+    }
+
+    fn ask_reference(&self, out: &mut [u8]) -> (u8, usize) {
+        let Numbers { a, e, rnti, n_id } = self.numbers;
+        reference::encode(a, e, rnti, n_id, &self.payload, out)
+    }
+}
+
+/// Soft values to be decoded.
+#[derive(Clone, Debug)]
+pub struct Decode {
+    pub numbers: Numbers,
+    pub soft: Vec<i32>,
+    pub out: Vec<u8>,
+}
+
+impl Decode {
+    /// A call with an output that fits and holds random bytes.
+    pub fn fitting(numbers: Numbers, soft: Vec<i32>, random: &mut Random) -> Self {
+        let out = random.bytes(numbers.a as usize);
+        Self { numbers, soft, out }
+    }
+}
+
+impl Call for Decode {
+    fn out(&self) -> &[u8] {
+        &self.out
+    }
+
+    fn ask_library(&self, out: &mut [u8]) -> Result<(), Refusal> {
+        speltfeather::decode(&self.numbers, &self.soft, out)
+    }
+
+    fn ask_reference(&self, out: &mut [u8]) -> (u8, usize) {
+        let Numbers { a, e, rnti, n_id } = self.numbers;
+        reference::decode(a, e, rnti, n_id, &self.soft, out)
+    }
+}
+
+/// A message to be coded and decoded with these strengths.
+#[derive(Clone, Debug)]
+pub struct Loopback {
+    pub numbers: Numbers,
+    pub payload: Vec<u8>,
+    pub strengths: Vec<i32>,
+    pub out: Vec<u8>,
+}
+
+impl Loopback {
+    /// A call with an output that fits and holds random bytes.
+    pub fn fitting(
+        numbers: Numbers,
+        payload: Vec<u8>,
+        strengths: Vec<i32>,
+        random: &mut Random,
+    ) -> Self {
+        let out = random.bytes(numbers.a as usize);
+        Self {
+            numbers,
+            payload,
+            strengths,
+            out,
+        }
+    }
+}
+
+impl Call for Loopback {
+    fn out(&self) -> &[u8] {
+        &self.out
+    }
+
+    fn ask_library(&self, out: &mut [u8]) -> Result<(), Refusal> {
+        speltfeather::loopback(&self.numbers, &self.payload, &self.strengths, out)
+    }
+
+    fn ask_reference(&self, out: &mut [u8]) -> (u8, usize) {
+        let Numbers { a, e, rnti, n_id } = self.numbers;
+        reference::loopback(a, e, rnti, n_id, &self.payload, &self.strengths, out)
+    }
+}

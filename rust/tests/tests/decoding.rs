@@ -1,0 +1,227 @@
+//! Decoding of every accepted pair (A, E): noiseless, noisy and hopeless rows, about 117,000.
+
+use conformance::rows::{SHAPES, strengths};
+use conformance::trials::{self, ENERGIES, Tally};
+use conformance::{Call, Decode, Outcome, Random, accepted_pairs};
+use reference::{CODED_LENGTHS, layout, parity, rate_matching, scrambling, transform};
+use speltfeather::Numbers;
+use std::sync::Barrier;
+use std::thread;
+
+const SEED: u64 = 0x38212;
+const PAIRS: usize = 589;
+
+/// Does a trial for each pair, so many times, and gives what was counted.
+fn for_each(
+    pairs: &[(u64, u64)],
+    times: usize,
+    seed: u64,
+    trial: impl Fn(u64, u64, &mut Random, &mut Tally),
+) -> Tally {
+    let mut random = Random::new(seed);
+    let mut tally = Tally::default();
+    for &(a, e) in pairs {
+        for _ in 0..times {
+            trial(a, e, &mut random, &mut tally);
+        }
+    }
+    tally
+}
+
+/// The same for every accepted pair.
+fn for_every_pair(
+    times: usize,
+    seed: u64,
+    trial: impl Fn(u64, u64, &mut Random, &mut Tally),
+) -> Tally {
+    let pairs = accepted_pairs();
+    assert_eq!(pairs.len(), PAIRS);
+    for_each(&pairs, times, seed, trial)
+}
+
+fn all_accepted(count: usize) -> Tally {
+    Tally {
+        accepted: count,
+        mismatched: 0,
+    }
+}
+
+#[test]
+fn noiseless_rows_give_their_payload() {
+    const ROWS: usize = 40;
+    let tally = for_every_pair(ROWS, SEED, trials::noiseless_row);
+    assert_eq!(tally, all_accepted(PAIRS * ROWS));
+}
+
+#[test]
+fn repeats_are_added() {
+    const ROWS: usize = 4;
+    let tally = for_every_pair(ROWS, SEED + 1, trials::contradicted_row);
+    assert_eq!(tally, all_accepted(PAIRS * ROWS));
+}
+
+#[test]
+fn noisy_messages_are_answered_as_the_reference_does() {
+    const ROWS: usize = 10;
+    let mut rows = 0;
+    for length in CODED_LENGTHS {
+        let mut pairs = accepted_pairs();
+        pairs.retain(|&(_, e)| e == length);
+        let tally = for_each(&pairs, ROWS, SEED + length, |a, e, random, tally| {
+            for energy in ENERGIES {
+                trials::noisy_message(a, e, energy, random, tally);
+            }
+        });
+        // Near the border, where one wrong step shows, both answers are common.
+        let share = |count: usize| count as f64 / tally.total() as f64;
+        assert!(share(tally.accepted) > 0.3, "E = {length}: {tally:?}");
+        assert!(share(tally.mismatched) > 0.3, "E = {length}: {tally:?}");
+        rows += tally.total();
+    }
+    assert_eq!(rows, PAIRS * ROWS * ENERGIES.len());
+}
+
+#[test]
+fn rows_that_are_no_message_are_answered_as_the_reference_does() {
+    const ROWS: usize = 3;
+    let tally = for_every_pair(ROWS, SEED + 3, |a, e, random, tally| {
+        for (_, shape) in SHAPES {
+            trials::shaped_row(a, e, shape, random, tally);
+        }
+    });
+    assert_eq!(tally.total(), PAIRS * ROWS * SHAPES.len());
+}
+
+#[test]
+fn every_decision_is_that_of_the_reference() {
+    const ROWS: usize = 5;
+    for (name, shape) in SHAPES {
+        let tally = for_every_pair(ROWS, SEED + 4, |a, e, random, tally| {
+            trials::turned_row(a, e, shape, random, tally);
+        });
+        // A row with many zeros may hold no message at all.
+        let least = PAIRS * ROWS - if name == "mostly 0" { 200 } else { 0 };
+        assert!(tally.accepted >= least, "{name}: {tally:?}");
+        assert_eq!(tally.mismatched, 0, "{name}");
+    }
+}
+
+#[test]
+fn messages_for_others_do_not_match() {
+    const MESSAGES: usize = 2;
+    let tally = for_every_pair(MESSAGES, SEED + 5, trials::other_numbers);
+    assert_eq!(tally.accepted, PAIRS * MESSAGES);
+    assert_eq!(tally.mismatched, 5 * PAIRS * MESSAGES);
+}
+
+/// Pairs with every kind of rate matching, the smallest and largest among them.
+const SOME_PAIRS: [(u64, u64); 6] = [
+    (12, 108),
+    (84, 108),
+    (70, 216),
+    (71, 216),
+    (140, 432),
+    (40, 1728),
+];
+
+#[test]
+fn every_bit_of_payload_and_parity_counts() {
+    let mut random = Random::new(SEED);
+    for (a, e) in SOME_PAIRS {
+        let code = layout(a, e).expect("an accepted pair");
+        for wrong in 0..code.k {
+            let numbers = random.numbers(a, e);
+            let mut row = parity::attached(&random.bits(a as usize), numbers.rnti);
+            row[wrong] ^= 1;
+            let d = transform::transform(&reference::carrying(&code, &row));
+            let sent = scrambling::scrambled(&rate_matching::matched(&code, &d), numbers.n_id);
+            let soft = reference::noiseless(&sent, &strengths(e as usize, &mut random));
+            Decode::fitting(numbers, soft, &mut random).expect(7, 0);
+        }
+    }
+}
+
+#[test]
+fn every_bit_of_rnti_and_identity_counts() {
+    let mut random = Random::new(SEED);
+    for (a, e) in SOME_PAIRS {
+        let numbers = random.numbers(a, e);
+        let payload = random.bits(a as usize);
+        let coded = trials::coded(&numbers, &payload);
+        let soft = reference::noiseless(&coded, &vec![1; e as usize]);
+        for bit in (0..16).map(|i| 1 << i) {
+            let (rnti, n_id) = (numbers.rnti ^ bit, numbers.n_id ^ bit);
+            for other in [Numbers { rnti, ..numbers }, Numbers { n_id, ..numbers }] {
+                Decode::fitting(other, soft.clone(), &mut random).expect(7, 0);
+            }
+        }
+    }
+}
+
+#[test]
+fn values_that_say_nothing_decide_0() {
+    // Every bit is 0, and with an RNTI to suit, 8 parity bits are left to refuse that.
+    let mut random = Random::new(SEED);
+    let mut tally = Tally::default();
+    for (a, e) in accepted_pairs() {
+        let rnti = parity::parity(&vec![0; a as usize]) as u16;
+        for rnti in [rnti, 0, random.u16()] {
+            let n_id = random.u16();
+            let numbers = Numbers { a, e, rnti, n_id };
+            let soft = vec![0; e as usize];
+            tally.count(&Decode::fitting(numbers, soft, &mut random).compared());
+        }
+    }
+    assert_eq!(tally.total(), 3 * PAIRS);
+}
+
+/// A row that can be decoded, a message with some noise.
+fn noisy_call(random: &mut Random) -> Decode {
+    let a = 12 + random.below(73) as u64;
+    let e = random.pick(&CODED_LENGTHS);
+    let numbers = random.numbers(a, e);
+    let coded = trials::coded(&numbers, &random.bits(a as usize));
+    let soft = conformance::rows::received(&coded, 0.4, 40.0, random);
+    Decode::fitting(numbers, soft, random)
+}
+
+#[test]
+fn nothing_is_kept_between_calls() {
+    let mut random = Random::new(SEED);
+    let calls: Vec<Decode> = (0..40).map(|_| noisy_call(&mut random)).collect();
+    let first: Vec<Outcome> = calls.iter().map(Call::compared).collect();
+    for round in 0..400 {
+        // Other calls and refusals in between, and another content of the buffer.
+        let chosen = random.below(calls.len());
+        let mut again = calls[chosen].clone();
+        again.out = random.bytes(again.out.len());
+        let mut bad = calls[random.below(calls.len())].clone();
+        bad.soft[3] = 128;
+        assert_eq!(bad.library(), bad.refused(6, 3), "round {round}");
+        let expected = match first[chosen].number {
+            0 => first[chosen].clone(),
+            number => again.refused(number, 0),
+        };
+        assert_eq!(again.library(), expected, "round {round}, {again:?}");
+    }
+}
+
+#[test]
+fn threads_do_not_disturb_each_other() {
+    const ROUNDS: usize = 5_000;
+    let start = Barrier::new(2);
+    let work = |seed| {
+        let mut random = Random::new(seed);
+        let calls: Vec<Decode> = (0..10).map(|_| noisy_call(&mut random)).collect();
+        let expected: Vec<Outcome> = calls.iter().map(Call::reference).collect();
+        start.wait();
+        (0..ROUNDS)
+            .filter(|round| calls[round % 10].library() == expected[round % 10])
+            .count()
+    };
+    let equal = thread::scope(|scope| {
+        let threads = [SEED, SEED + 1].map(|seed| scope.spawn(move || work(seed)));
+        threads.map(|thread| thread.join().expect("a thread that ends"))
+    });
+    assert_eq!(equal, [ROUNDS, ROUNDS]);
+}
