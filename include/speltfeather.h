@@ -6,7 +6,8 @@
  *
  * Link with libspeltfeather.a. Nothing has to be set up first, and nothing is
  * kept between calls: calls may run in any number of threads at once. A call
- * allocates nothing, and of the C library it needs memcpy and memset alone.
+ * allocates nothing, and of the C library it needs memcpy and memset alone. On
+ * the stack coding takes about 5 kB, decoding 17 kB and the self-test 26 kB.
  */
 #ifndef SPELTFEATHER_H
 #define SPELTFEATHER_H

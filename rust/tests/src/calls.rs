@@ -3,6 +3,8 @@
 use crate::Random;
 use speltfeather::{Numbers, Refusal};
 use std::fmt::Debug;
+use std::sync::Barrier;
+use std::thread;
 
 /// What a call gives: the number, the place, and the output buffer afterwards.
 #[derive(Clone, Debug, PartialEq, Eq)]
@@ -175,4 +177,24 @@ impl Call for Loopback {
         let Numbers { a, e, rnti, n_id } = self.numbers;
         reference::loopback(a, e, rnti, n_id, &self.payload, &self.strengths, out)
     }
+}
+
+/// Asserts that two threads which make calls of their own at once get what the reference gives.
+pub fn assert_threads_agree<C: Call>(rounds: usize, seed: u64, make: fn(&mut Random) -> C) {
+    let start = Barrier::new(2);
+    let work = |seed| {
+        let mut random = Random::new(seed);
+        let calls: Vec<C> = (0..10).map(|_| make(&mut random)).collect();
+        let expected: Vec<Outcome> = calls.iter().map(Call::reference).collect();
+        start.wait();
+        (0..rounds)
+            .filter(|round| calls[round % 10].library() == expected[round % 10])
+            .count()
+    };
+    let equal = thread::scope(|scope| {
+        let work = &work;
+        let threads = [seed, seed + 1].map(|seed| scope.spawn(move || work(seed)));
+        threads.map(|thread| thread.join().expect("a thread that ends"))
+    });
+    assert_eq!(equal, [rounds, rounds]);
 }

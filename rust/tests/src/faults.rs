@@ -1,5 +1,7 @@
 //! What calls are refused for, one by one and together.
 
+use reference::CODED_LENGTHS;
+
 /// Sizes that a program with narrower numbers, or one that adds without care, would take for others.
 pub const FAR: [u64; 8] = [
     1 << 8,
@@ -54,4 +56,49 @@ pub fn length(fits: u64, wrong: bool, shorter: bool) -> usize {
         (true, true) => fits as usize - 1,
         (true, false) => fits as usize + 1,
     }
+}
+
+/// A pair of sizes with the number that it gets.
+pub type Pair = (u64, u64, u8);
+
+/// Pairs around the borders of 1; those that are accepted get `fine`.
+pub fn payload_sizes(fine: u8) -> Vec<Pair> {
+    let mut sized = vec![];
+    for e in CODED_LENGTHS {
+        let far = FAR
+            .into_iter()
+            .flat_map(|far| [0, 12, 40, 84].map(|near| far.wrapping_add(near).max(far)));
+        sized.extend(
+            [0, 1, 11, 141, 142, 255]
+                .into_iter()
+                .chain(far)
+                .map(|a| (a, e, 1)),
+        );
+        sized.extend([12, 13, 83, 84].map(|a| (a, e, fine)));
+    }
+    for e in [216, 432, 864, 1728] {
+        sized.extend([85, 139, 140].map(|a| (a, e, fine)));
+    }
+    sized
+}
+
+/// Pairs around the borders of 2.
+pub fn coded_lengths() -> Vec<Pair> {
+    let mut sized = vec![];
+    for a in [12, 40, 84, 140] {
+        sized.extend([0, 1, 32, 54, 64, 128, 256, 324, 512, 1024, 1836].map(|e| (a, e, 2)));
+        for e in CODED_LENGTHS {
+            let far = FAR.into_iter().map(|far| far.wrapping_add(e).max(far));
+            sized.extend([e - 1, e + 1].into_iter().chain(far).map(|e| (a, e, 2)));
+        }
+    }
+    sized
+}
+
+/// Pairs around the border of 3; those that are accepted get `fine`.
+pub fn too_many_bits(fine: u8) -> Vec<Pair> {
+    let mut sized: Vec<Pair> = (80..=84).map(|a| (a, 108, fine)).collect();
+    sized.extend((85..=140).map(|a| (a, 108, 3)));
+    sized.push((140, 216, fine));
+    sized
 }

@@ -6,7 +6,7 @@ pub mod faults;
 pub mod rows;
 pub mod trials;
 
-pub use calls::{Call, Decode, Encode, Loopback, Outcome};
+pub use calls::{Call, Decode, Encode, Loopback, Outcome, assert_threads_agree};
 
 use speltfeather::Numbers;
 
@@ -73,6 +73,16 @@ impl Random {
         Numbers { a, e, rnti, n_id }
     }
 }
+
+/// Pairs with every kind of rate matching, the smallest and largest among them.
+pub const SOME_PAIRS: [(u64, u64); 6] = [
+    (12, 108),
+    (84, 108),
+    (70, 216),
+    (71, 216),
+    (140, 432),
+    (140, 1728),
+];
 
 /// All accepted pairs (A, E).
 pub fn accepted_pairs() -> Vec<(u64, u64)> {

@@ -1,6 +1,6 @@
 //! Every accepted pair (A, E), with random and extreme payloads and numbers.
 
-use conformance::{Call, Encode, Random, accepted_pairs};
+use conformance::{Call, Encode, Random, SOME_PAIRS, accepted_pairs};
 use speltfeather::Numbers;
 
 const SEED: u64 = 0x38212;
@@ -49,14 +49,7 @@ fn each_payload_bit_counts() {
     // A bit that is left out, or read from the wrong place, shows in a payload with a single 1.
     let mut random = Random::new(SEED);
     let mut compared = 0;
-    for (a, e) in [
-        (12, 108),
-        (84, 108),
-        (70, 216),
-        (71, 216),
-        (140, 432),
-        (140, 1728),
-    ] {
+    for (a, e) in SOME_PAIRS {
         for place in 0..a as usize {
             let mut payload = vec![0; a as usize];
             payload[place] = 1;

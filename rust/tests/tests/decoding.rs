@@ -2,11 +2,11 @@
 
 use conformance::rows::{SHAPES, strengths};
 use conformance::trials::{self, ENERGIES, Tally};
-use conformance::{Call, Decode, Outcome, Random, accepted_pairs};
+use conformance::{
+    Call, Decode, Outcome, Random, SOME_PAIRS, accepted_pairs, assert_threads_agree,
+};
 use reference::{CODED_LENGTHS, layout, parity, rate_matching, scrambling, transform};
 use speltfeather::Numbers;
-use std::sync::Barrier;
-use std::thread;
 
 const SEED: u64 = 0x38212;
 const PAIRS: usize = 589;
@@ -114,16 +114,6 @@ fn messages_for_others_do_not_match() {
     assert_eq!(tally.mismatched, 5 * PAIRS * MESSAGES);
 }
 
-/// Pairs with every kind of rate matching, the smallest and largest among them.
-const SOME_PAIRS: [(u64, u64); 6] = [
-    (12, 108),
-    (84, 108),
-    (70, 216),
-    (71, 216),
-    (140, 432),
-    (40, 1728),
-];
-
 #[test]
 fn every_bit_of_payload_and_parity_counts() {
     let mut random = Random::new(SEED);
@@ -208,20 +198,5 @@ fn nothing_is_kept_between_calls() {
 
 #[test]
 fn threads_do_not_disturb_each_other() {
-    const ROUNDS: usize = 5_000;
-    let start = Barrier::new(2);
-    let work = |seed| {
-        let mut random = Random::new(seed);
-        let calls: Vec<Decode> = (0..10).map(|_| noisy_call(&mut random)).collect();
-        let expected: Vec<Outcome> = calls.iter().map(Call::reference).collect();
-        start.wait();
-        (0..ROUNDS)
-            .filter(|round| calls[round % 10].library() == expected[round % 10])
-            .count()
-    };
-    let equal = thread::scope(|scope| {
-        let threads = [SEED, SEED + 1].map(|seed| scope.spawn(move || work(seed)));
-        threads.map(|thread| thread.join().expect("a thread that ends"))
-    });
-    assert_eq!(equal, [ROUNDS, ROUNDS]);
+    assert_threads_agree(5_000, SEED, noisy_call);
 }

@@ -1,8 +1,8 @@
 //! Coding and decoding in one call: every accepted pair (A, E), and every refusal.
 
-use conformance::faults::{FAR, Faults, length};
+use conformance::faults::{self, FAR, Faults, length};
 use conformance::trials::{self, Tally};
-use conformance::{Call, Loopback, Random, accepted_pairs, rows};
+use conformance::{Call, Loopback, Random, SOME_PAIRS, accepted_pairs, rows};
 use speltfeather::Numbers;
 
 const SEED: u64 = 0x1007;
@@ -42,14 +42,7 @@ fn every_pair_gives_its_payload() {
 fn extreme_payloads_numbers_and_strengths() {
     let mut random = Random::new(SEED);
     let mut tally = Tally::default();
-    for (a, e) in [
-        (12, 108),
-        (84, 108),
-        (70, 216),
-        (71, 216),
-        (140, 432),
-        (140, 1728),
-    ] {
+    for (a, e) in SOME_PAIRS {
         for (bit, strength) in [(0, 1), (0, 127), (1, 1), (1, 127)] {
             for (rnti, n_id) in [(0, 0), (0, 0xFFFF), (0xFFFF, 0), (0xFFFF, 0xFFFF)] {
                 let numbers = Numbers { a, e, rnti, n_id };
@@ -74,27 +67,13 @@ fn expect_sizes(a: u64, e: u64, number: u8, random: &mut Random) {
 #[test]
 fn sizes() {
     let mut random = Random::new(SEED);
-    for e in [108, 216, 432, 864, 1728] {
-        for a in [0, 11, 141, 255] {
-            expect_sizes(a, e, 1, &mut random);
-        }
-        for far in FAR {
-            for near in [0, 12, 40, 84] {
-                expect_sizes(far.wrapping_add(near).max(far), e, 1, &mut random);
-            }
-        }
-        for a in [12, 40, 84] {
-            expect_sizes(a, e, 0, &mut random);
-            expect_sizes(a, e - 1, 2, &mut random);
-            expect_sizes(a, e + 1, 2, &mut random);
-            for far in FAR {
-                expect_sizes(a, far.wrapping_add(e).max(far), 2, &mut random);
-            }
-        }
-    }
-    for a in 85..=140 {
-        expect_sizes(a, 108, 3, &mut random);
-        expect_sizes(a, 216, 0, &mut random);
+    let pairs = [
+        faults::payload_sizes(0),
+        faults::coded_lengths(),
+        faults::too_many_bits(0),
+    ];
+    for (a, e, number) in pairs.concat() {
+        expect_sizes(a, e, number, &mut random);
     }
 }
 

@@ -18,6 +18,16 @@ fn code_word_of(layout: &Layout, sent: &[u8], unsent: &[u8]) -> Vec<u8> {
     d
 }
 
+/// The sizes of the hardware's word, which was coded for RNTI 0.
+fn hardware_numbers(n_id: u16) -> Numbers {
+    Numbers {
+        a: 78,
+        e: 108,
+        rnti: 0,
+        n_id,
+    }
+}
+
 #[test]
 fn hardware_word_is_sent() {
     let mut random = Random::new(SEED);
@@ -25,12 +35,7 @@ fn hardware_word_is_sent() {
     let word = published::hardware_code_word();
     let payload = published::hardware_payload().expect("a code word");
     for n_id in IDENTITIES {
-        let numbers = Numbers {
-            a: 78,
-            e: 108,
-            rnti: 0,
-            n_id,
-        };
+        let numbers = hardware_numbers(n_id);
         let sent = sent_bits(numbers, &payload, &mut random);
         assert_eq!(sent, rate_matching::matched(&code, &word), "n_ID {n_id}");
         // Shortened code bits are 0, so the sent ones give the whole word.
@@ -46,12 +51,7 @@ fn hardware_word_is_read() {
         &published::hardware_code_word(),
     );
     for n_id in IDENTITIES {
-        let numbers = Numbers {
-            a: 78,
-            e: 108,
-            rnti: 0,
-            n_id,
-        };
+        let numbers = hardware_numbers(n_id);
         let soft = noiseless(&scrambling::scrambled(&sent, n_id), &[1; 108]);
         let outcome = Decode::fitting(numbers, soft, &mut random).compared();
         assert_eq!(outcome.number, 0, "n_ID {n_id}");

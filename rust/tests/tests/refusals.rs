@@ -1,6 +1,6 @@
 //! Refusals of coding: each at its boundaries, in their order, with the buffer untouched.
 
-use conformance::faults::{FAR, Faults, length};
+use conformance::faults::{self, Faults, Pair, length};
 use conformance::{Call, Encode, Random};
 use speltfeather::Numbers;
 
@@ -22,56 +22,26 @@ fn expect_sizes(a: u64, e: u64, number: u8, random: &mut Random) {
     call(a, e, payload, output, random).expect(number, 0);
 }
 
+fn expect_all(pairs: Vec<Pair>) {
+    let mut random = Random::new(SEED);
+    for (a, e, number) in pairs {
+        expect_sizes(a, e, number, &mut random);
+    }
+}
+
 #[test]
 fn payload_size() {
-    let mut random = Random::new(SEED);
-    for e in [108, 216, 432, 864, 1728] {
-        for a in [0, 1, 11, 141, 142, 255] {
-            expect_sizes(a, e, 1, &mut random);
-        }
-        for far in FAR {
-            for near in [0, 12, 40, 84] {
-                expect_sizes(far.wrapping_add(near).max(far), e, 1, &mut random);
-            }
-        }
-        for a in [12, 13, 83, 84] {
-            expect_sizes(a, e, 0, &mut random);
-        }
-    }
-    for e in [216, 432, 864, 1728] {
-        for a in [85, 139, 140] {
-            expect_sizes(a, e, 0, &mut random);
-        }
-    }
+    expect_all(faults::payload_sizes(0));
 }
 
 #[test]
 fn coded_length() {
-    let mut random = Random::new(SEED);
-    for a in [12, 40, 84, 140] {
-        for e in [0, 1, 32, 54, 64, 128, 256, 324, 512, 1024, 1836] {
-            expect_sizes(a, e, 2, &mut random);
-        }
-        for e in [108, 216, 432, 864, 1728] {
-            expect_sizes(a, e - 1, 2, &mut random);
-            expect_sizes(a, e + 1, 2, &mut random);
-            for far in FAR {
-                expect_sizes(a, far.wrapping_add(e).max(far), 2, &mut random);
-            }
-        }
-    }
+    expect_all(faults::coded_lengths());
 }
 
 #[test]
 fn too_many_bits() {
-    let mut random = Random::new(SEED);
-    for a in 80..=84 {
-        expect_sizes(a, 108, 0, &mut random);
-    }
-    for a in 85..=140 {
-        expect_sizes(a, 108, 3, &mut random);
-    }
-    expect_sizes(140, 216, 0, &mut random);
+    expect_all(faults::too_many_bits(0));
 }
 
 #[test]

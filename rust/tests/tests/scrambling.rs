@@ -1,10 +1,8 @@
 //! The scrambling identity, and that calls leave nothing behind.
 
-use conformance::{Call, Encode, Outcome, Random};
+use conformance::{Call, Encode, Outcome, Random, assert_threads_agree};
 use reference::{CODED_LENGTHS, scrambling};
 use speltfeather::Numbers;
-use std::sync::Barrier;
-use std::thread;
 
 const SEED: u64 = 0x521;
 
@@ -83,20 +81,5 @@ fn nothing_is_kept_between_calls() {
 
 #[test]
 fn threads_do_not_disturb_each_other() {
-    const ROUNDS: usize = 20_000;
-    let start = Barrier::new(2);
-    let work = |seed| {
-        let mut random = Random::new(seed);
-        let calls: Vec<Encode> = (0..10).map(|_| accepted_call(&mut random)).collect();
-        let expected: Vec<Outcome> = calls.iter().map(Encode::reference).collect();
-        start.wait();
-        (0..ROUNDS)
-            .filter(|round| calls[round % 10].library() == expected[round % 10])
-            .count()
-    };
-    let equal = thread::scope(|scope| {
-        let threads = [SEED, SEED + 1].map(|seed| scope.spawn(move || work(seed)));
-        threads.map(|thread| thread.join().expect("a thread that ends"))
-    });
-    assert_eq!(equal, [ROUNDS, ROUNDS]);
+    assert_threads_agree(20_000, SEED, accepted_call);
 }
