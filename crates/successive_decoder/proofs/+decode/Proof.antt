@@ -90,16 +90,6 @@ module _ (t : ℕ) where
 
   -- ---- the answers
 
-  returns-2 : decode-lts.Need-returns-2 (claims t) (decode-at t) decode.Post
-  returns-2 c =
-      let m = c .before .before in
-      let d = m .before .before .before .before .before .before in
-      let e = d .before .before .before .before .before .before .before .before .before .before .before .before .before .before .before .before .before .before .before in
-      let s = e .before .before .before .before in (
-        est-is (e .if1 .left) (s .pre .1) (both d),
-        (sums-are (e .if1 .left) (s .pre .1) (both d) (m .combine .last .0) (m .combine .ensures), work-kept (e .if1 .left) (s .pre .1) (both d)),
-      )
-
   returns : decode-lts.Need-returns (claims t) (decode-at t) decode.Post
   returns c =
       let e = c .before .before .before in
@@ -110,6 +100,16 @@ module _ (t : ℕ) where
       (one-fits (a .n) (a .work .now) (e .if1 .taken) (s .pre .1 .bound)) (c .decision .ensures) in (
         one-est (a .n) (a .work .now) (a .marks .now) (a .est .now) (c .decision .result) (e .if1 .taken) (s .pre .1 .bits) q,
         (one-sums (a .n) (a .work .now) (a .marks .now) (a .sums .now) (c .decision .result) (e .if1 .taken) (s .pre .1 .words) q, refl),
+      )
+
+  returns-2 : decode-lts.Need-returns-2 (claims t) (decode-at t) decode.Post
+  returns-2 c =
+      let m = c .before .before in
+      let d = m .before .before .before .before .before .before in
+      let e = d .before .before .before .before .before .before .before .before .before .before .before .before .before .before .before .before .before .before .before in
+      let s = e .before .before .before .before in (
+        est-is (e .if1 .left) (s .pre .1) (both d),
+        (sums-are (e .if1 .left) (s .pre .1) (both d) (m .combine .last .0) (m .combine .ensures), work-kept (e .if1 .left) (s .pre .1) (both d)),
       )
 
   decode-requires-2 : decode-lts.Need-decode-requires-2 (claims t) (decode-at t) decode.Post
