@@ -4,7 +4,8 @@
 //! The contestants take turns in many short rounds, so that a disturbance meets all of them, and each
 //! one's best round counts.
 
-use conformance::{Random, rows, trials};
+use channel::{Random, received};
+use conformance::trials;
 use speltfeather::{Numbers, Refusal};
 use std::hint::black_box;
 use std::time::{Duration, Instant};
@@ -102,7 +103,7 @@ fn to_decode(a: u64, e: u64, random: &mut Random) -> Message<i32> {
     loop {
         let numbers = random.numbers(a, e);
         let coded = trials::coded(&numbers, &random.bits(a as usize));
-        let input = rows::received(&coded, noise, 20.0, random);
+        let input = received(&coded, noise, 20.0, random);
         let mut out = vec![0; a as usize];
         if speltfeather::decode(&numbers, &input, &mut out).is_ok() {
             return Message {

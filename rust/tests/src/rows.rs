@@ -1,14 +1,11 @@
 //! Rows of soft values: such as a receiver has, and such as it hardly ever has.
 
-use crate::Random;
+use channel::{MOST, Random};
 use reference::decoding::{Decided, decided, descrambled, gathered};
 use reference::{construction, interleaver, layout, parity, placed, rate_matching};
 use reference::{scrambling, transform};
 use speltfeather::Numbers;
 use std::cmp::Reverse;
-
-/// The largest size of a soft value.
-pub const MOST: i32 = 127;
 
 /// Makes a row of soft values for accepted numbers.
 pub type Shape = fn(&Numbers, &mut Random) -> Vec<i32>;
@@ -96,17 +93,6 @@ pub fn strengths(e: usize, random: &mut Random) -> Vec<i32> {
         _ => (1..=MOST).collect(),
     };
     (0..e).map(|_| random.pick(&choices)).collect()
-}
-
-/// Coded bits as received with Gaussian noise, 1 being the amplitude sent; the gain says which soft
-/// value that amplitude is.
-pub fn received(coded: &[u8], noise: f64, gain: f64, random: &mut Random) -> Vec<i32> {
-    let value = |&bit: &u8| {
-        let sent = if bit == 0 { 1.0 } else { -1.0 };
-        let seen = gain * (sent + noise * random.normal());
-        (seen.round() as i32).clamp(-MOST, MOST)
-    };
-    coded.iter().map(value).collect()
 }
 
 /// A row that must be accepted, and the payload that it must give.

@@ -1,7 +1,8 @@
 //! Trials of decoding for a pair (A, E). Each compares the library with the reference and counts.
 
-use crate::rows::{MOST, SHAPES, Shape, received, strengths, turned};
+use crate::rows::{SHAPES, Shape, strengths, turned};
 use crate::{Call, Decode, Loopback, Outcome, Random};
+use channel::{MOST, received};
 use reference::{layout, noiseless};
 use speltfeather::Numbers;
 

@@ -171,7 +171,7 @@ fn noisy_call(random: &mut Random) -> Decode {
     let e = random.pick(&CODED_LENGTHS);
     let numbers = random.numbers(a, e);
     let coded = trials::coded(&numbers, &random.bits(a as usize));
-    let soft = conformance::rows::received(&coded, 0.4, 40.0, random);
+    let soft = channel::received(&coded, 0.4, 40.0, random);
     Decode::fitting(numbers, soft, random)
 }
 
