@@ -1,0 +1,121 @@
+//! The programs that are timed, and the messages that they are given.
+
+use channel::{Random, received};
+use conformance::trials;
+use speltfeather::{Numbers, Refusal};
+
+/// A call of plain.c, with the types of the interface: the input is bits or soft values.
+type Plain<T> = unsafe extern "C" fn(u64, u64, u16, u16, *const T, usize, *mut u8, usize) -> u64;
+
+unsafe extern "C" {
+    static plain_encode_1: Plain<u8>;
+    static plain_encode_16: Plain<u8>;
+    static plain_decode_1: Plain<i32>;
+    static plain_decode_16: Plain<i32>;
+}
+
+/// A message that is coded or decoded, with a buffer for the output.
+pub struct Message<T> {
+    pub numbers: Numbers,
+    pub input: Vec<T>,
+    pub out: Vec<u8>,
+}
+
+pub type Contestant<T> = fn(&Numbers, &[T], &mut [u8]);
+
+/// The library, plain C with 1 and with 16 terms of the Gold sequence at a time, and the reference.
+pub type Contestants<T> = [Contestant<T>; 4];
+
+pub const CODERS: Contestants<u8> = [
+    |numbers, payload, out| library(speltfeather::encode(numbers, payload, out)),
+    // SAFETY: a constant of plain.c.
+    |numbers, payload, out| plain(unsafe { plain_encode_1 }, numbers, payload, out),
+    // SAFETY: a constant of plain.c.
+    |numbers, payload, out| plain(unsafe { plain_encode_16 }, numbers, payload, out),
+    |numbers, payload, out| {
+        let Numbers { a, e, rnti, n_id } = *numbers;
+        reference(reference::encode(a, e, rnti, n_id, payload, out));
+    },
+];
+
+pub const DECODERS: Contestants<i32> = [
+    |numbers, soft, out| library(speltfeather::decode(numbers, soft, out)),
+    // SAFETY: a constant of plain.c.
+    |numbers, soft, out| plain(unsafe { plain_decode_1 }, numbers, soft, out),
+    // SAFETY: a constant of plain.c.
+    |numbers, soft, out| plain(unsafe { plain_decode_16 }, numbers, soft, out),
+    |numbers, soft, out| {
+        let Numbers { a, e, rnti, n_id } = *numbers;
+        reference(reference::decode(a, e, rnti, n_id, soft, out));
+    },
+];
+
+fn library(answer: Result<(), Refusal>) {
+    answer.expect("an accepted call");
+}
+
+fn reference(answer: (u8, usize)) {
+    assert_eq!(answer, (0, 0), "an accepted call");
+}
+
+fn plain<T>(call: Plain<T>, numbers: &Numbers, input: &[T], out: &mut [u8]) {
+    let Numbers { a, e, rnti, n_id } = *numbers;
+    // SAFETY: the pointers come from two slices and stand with their lengths.
+    let answer = unsafe {
+        call(
+            a,
+            e,
+            rnti,
+            n_id,
+            input.as_ptr(),
+            input.len(),
+            out.as_mut_ptr(),
+            out.len(),
+        )
+    };
+    assert_eq!(answer, 0, "an accepted call");
+}
+
+/// A random payload to be coded.
+pub fn to_code(a: u64, e: u64, random: &mut Random) -> Message<u8> {
+    Message {
+        numbers: random.numbers(a, e),
+        input: random.bits(a as usize),
+        out: vec![0; e as usize],
+    }
+}
+
+/// A random payload received with noise, not too much to be accepted.
+pub fn to_decode(a: u64, e: u64, random: &mut Random) -> Message<i32> {
+    let noise = (e as f64 / (6 * (a + 24)) as f64).sqrt();
+    loop {
+        let numbers = random.numbers(a, e);
+        let coded = trials::coded(&numbers, &random.bits(a as usize));
+        let input = received(&coded, noise, 20.0, random);
+        let mut out = vec![0; a as usize];
+        if speltfeather::decode(&numbers, &input, &mut out).is_ok() {
+            return Message {
+                numbers,
+                input,
+                out,
+            };
+        }
+    }
+}
+
+/// Asserts that all give the same bits.
+pub fn assert_all_equal<T>(contestants: &Contestants<T>, messages: &[Message<T>]) {
+    for Message {
+        numbers,
+        input,
+        out,
+    } in messages
+    {
+        let given = contestants.map(|contestant| {
+            let mut out = vec![9; out.len()];
+            contestant(numbers, input, &mut out);
+            out
+        });
+        assert!(given.iter().all(|bits| *bits == given[0]), "{numbers:?}");
+    }
+}
