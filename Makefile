@@ -1,18 +1,33 @@
-# make demo   proves and builds the library, codes a message and reads it back
-# make test   the gate: all proofs from nothing, the edits that must be refused, then the library's tests
-# make long   decoding against the second program for some minutes (ROUNDS=60 SEED=1)
-# make bench  times coding and decoding against plain C and the second program
+# make demo          proves and builds the library, codes a message, sends it through noise, reads it back
+# make test          the gate: all proofs from nothing, the edits that must be refused, then the library's tests
+# make lib           the archive, target/staticlib/libspeltfeather.a
+# make dci           the command dci
+# make install       header, archive and pkg-config file, below PREFIX (/usr/local)
+# make long          decoding against the second program for some minutes (ROUNDS=60 SEED=1)
+# make bench         times coding and decoding against plain C and the second program
 SHELL := bash
 .SHELLFLAGS := -euo pipefail -c
 .ONESHELL:
-.PHONY: lib demo test long bench
+.DELETE_ON_ERROR:
+.PHONY: lib demo test dci install uninstall long bench
 
-lib:
-	@rt staticlib speltfeather
+PREFIX ?= /usr/local
+VERSION := $(shell sed -n 's/^version = "\(.*\)"/\1/p' rust/Cargo.toml)
+ARCHIVE := target/staticlib/libspeltfeather.a
+INSTALLED := include/speltfeather.h lib/libspeltfeather.a lib/pkgconfig/speltfeather.pc
+
+lib: $(ARCHIVE)
+
+# Proved again whenever a source has changed. What the prover says in full is in target/lib.log.
+$(ARCHIVE): crates.txt $(shell find crates -name '*.rt' -o -name '*.antt')
+	@echo "proving and building the library; from nothing this takes about two minutes"
+	mkdir -p target
+	(rt check speltfeather && rt staticlib speltfeather) 2>&1 | tee target/lib.log | grep --line-buffered '^rt:' ||
+	  { cat target/lib.log; exit 1; }
 
 demo: lib
 	@cd rust
-	cargo run --quiet --release -p speltfeather --example sib1
+	cargo run --quiet --release -p cli --bin demo
 
 # rt ci removes target/, so the archive is built after it. Its closing line comes last.
 test:
@@ -22,6 +37,24 @@ test:
 	rt staticlib speltfeather
 	(cd rust && cargo test --release)
 	tail -n 1 "$$log"
+
+dci: lib
+	@cd rust
+	cargo build --quiet --release -p cli --bin dci
+	echo "built rust/target/release/dci; try: rust/target/release/dci help"
+
+install: lib
+	@prefix=$$(realpath -m "$(PREFIX)")
+	to="$(DESTDIR)$$prefix"
+	install -d "$$to/include" "$$to/lib/pkgconfig"
+	install -m 644 include/speltfeather.h "$$to/include"
+	install -m 644 $(ARCHIVE) "$$to/lib"
+	sed -e "s|@PREFIX@|$$prefix|" -e 's|@VERSION@|$(VERSION)|' speltfeather.pc.in > "$$to/lib/pkgconfig/speltfeather.pc"
+	printf "installed $$to/%s\n" $(INSTALLED)
+
+uninstall:
+	@cd "$(DESTDIR)$$(realpath -m "$(PREFIX)")"
+	rm -f $(INSTALLED)
 
 long: lib
 	@cd rust

@@ -1,0 +1,117 @@
+//! `dci encode`
+
+use crate::answers::of_sizes;
+use crate::commands::Command;
+use crate::failure::Failure;
+use crate::options::{ID, Known, LENGTH, Options, PAYLOAD, RNTI, SIZE};
+use crate::{picture, text};
+use speltfeather::{Numbers, Refusal};
+use std::io::Write;
+
+const AS: Known = Known {
+    name: "--as",
+    expected: "hex, bits, strip or soft",
+};
+
+pub const COMMAND: Command = Command {
+    name: "encode",
+    summary: "codes a payload into E scrambled bits",
+    help: "\
+dci encode - codes a payload into E scrambled bits
+
+usage: dci encode --size A --length E --rnti R --id N --payload P [--as FORM]
+
+  --size A      payload size in bits, 12 to 140; the 24 parity bits are not
+                counted
+  --length E    coded length in bits: 108, 216, 432, 864 or 1728 (aggregation
+                level 1, 2, 4, 8 or 16)
+  --rnti R      radio number (RNTI), 0 to 65535: decimal, or hexadecimal after
+                0x
+  --id N        scrambling identity n_ID, 0 to 65535
+  --payload P   the payload, first bit first: A bits, or hexadecimal digits, as
+                many as A bits fill, with zeros behind the last bit. 0b or 0x in
+                front says which; _ may stand between digits
+  --as FORM     how to print the coded bits, first bit first:
+                hex    hexadecimal digits, the default
+                bits   digits 0 and 1
+                strip  a picture, 64 bits in a line
+                soft   soft values without noise, as `dci decode` reads them
+
+example: the message that announces SIB1
+  dci encode --size 37 --length 432 --rnti 0xffff --id 1 --payload 5400a00000
+
+exit status: 0 if the message was coded; the answer's number, 1 to 6, if it was
+refused (`dci answers` lists them); 64 if the command line is wrong; 66 if the
+output cannot be written
+",
+    options: &[&SIZE, &LENGTH, &RNTI, &ID, &PAYLOAD, &AS],
+    operands: 0,
+    run,
+};
+
+/// The strength of the soft values that are printed.
+const STRENGTH: i32 = 64;
+/// How many of them stand in a line.
+const IN_A_LINE: usize = 18;
+
+#[derive(Clone, Copy)]
+enum Form {
+    Hex,
+    Bits,
+    Strip,
+    Soft,
+}
+
+fn run(options: &Options, out: &mut dyn Write) -> Result<(), Failure> {
+    let numbers = options.numbers()?;
+    let payload = text::payload(options.needed(&PAYLOAD)?, numbers.a)?;
+    let forms = [
+        ("hex", Form::Hex),
+        ("bits", Form::Bits),
+        ("strip", Form::Strip),
+        ("soft", Form::Soft),
+    ];
+    let form = options.choice(&AS, &forms)?;
+    // An E that no buffer should be made for is refused before its length counts.
+    let mut coded = vec![0; numbers.e.min(1728) as usize];
+    speltfeather::encode(&numbers, &payload, &mut coded)
+        .map_err(|refusal| Failure::Answer(refusal, explained(refusal, &numbers, &payload)))?;
+    for line in lines(form, &coded) {
+        writeln!(out, "{line}")?;
+    }
+    Ok(())
+}
+
+fn lines(form: Form, coded: &[u8]) -> Vec<String> {
+    match form {
+        Form::Hex => vec![text::hex(coded)],
+        Form::Bits => vec![text::digits(coded)],
+        Form::Strip => picture::strip(coded.iter().map(|&bit| picture::bit(bit))),
+        Form::Soft => coded.chunks(IN_A_LINE).map(soft_line).collect(),
+    }
+}
+
+fn soft_line(bits: &[u8]) -> String {
+    let value = |&bit: &u8| if bit == 0 { STRENGTH } else { -STRENGTH };
+    let values: Vec<String> = bits.iter().map(|bit| value(bit).to_string()).collect();
+    values.join(" ")
+}
+
+fn explained(refusal: Refusal, numbers: &Numbers, payload: &[u8]) -> String {
+    let Numbers { a, e, .. } = *numbers;
+    if let Some(text) = of_sizes(refusal, a, e) {
+        return text;
+    }
+    match refusal {
+        Refusal::InputLength => format!(
+            "--payload has {} bits: expected {}",
+            payload.len(),
+            text::wanted(a)
+        ),
+        Refusal::BadEntry(place) => format!(
+            "--payload has {} at place {place}, counted from 0: expected bits, 0 or 1",
+            payload[place]
+        ),
+        other => other.to_string(),
+    }
+}

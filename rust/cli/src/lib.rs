@@ -1,0 +1,9 @@
+//! The command `dci`: what its commands do, and how they show bits.
+
+pub mod answers;
+pub mod commands;
+pub mod failure;
+pub mod options;
+pub mod picture;
+pub mod soft;
+pub mod text;

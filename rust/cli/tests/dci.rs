@@ -1,0 +1,263 @@
+//! The command as a user meets it: what it prints, what it complains of, and its exit status.
+
+use std::env;
+use std::fs;
+use std::io::Write;
+use std::process::{Command, Stdio};
+
+const NUMBERS: &str = "--size 37 --length 432 --rnti 0xffff --id 1";
+const SIB1: &str = "--payload 5400a00000";
+const SIB1_BITS: &str = "0101010000000000101000000000000000000";
+
+/// What a run gave: exit status, standard output and standard error.
+struct Run {
+    status: i32,
+    out: String,
+    err: String,
+}
+
+fn dci_with(line: &str, input: &str) -> Run {
+    let mut child = Command::new(env!("CARGO_BIN_EXE_dci"))
+        .args(line.split_whitespace())
+        .stdin(Stdio::piped())
+        .stdout(Stdio::piped())
+        .stderr(Stdio::piped())
+        .spawn()
+        .expect("dci can be run");
+    // A command that does not read its input may end before it is written.
+    let _ = child
+        .stdin
+        .take()
+        .expect("a pipe")
+        .write_all(input.as_bytes());
+    let output = child.wait_with_output().expect("dci ends");
+    Run {
+        status: output.status.code().expect("an exit status"),
+        out: String::from_utf8(output.stdout).expect("text"),
+        err: String::from_utf8(output.stderr).expect("text"),
+    }
+}
+
+fn dci(line: &str) -> Run {
+    dci_with(line, "")
+}
+
+/// What a run prints that must go well.
+fn printed(line: &str, input: &str) -> String {
+    let run = dci_with(line, input);
+    assert_eq!((run.status, &run.err[..]), (0, ""), "{line}");
+    run.out
+}
+
+/// Asserts that a run prints nothing, ends with that status and says all of this.
+fn assert_refused(line: &str, input: &str, status: i32, said: &[&str]) {
+    let run = dci_with(line, input);
+    assert_eq!((run.status, &run.out[..]), (status, ""), "{line}");
+    for words in said {
+        assert!(run.err.contains(words), "{line}: {}", run.err);
+    }
+}
+
+fn soft_row() -> String {
+    printed(&format!("encode {NUMBERS} {SIB1} --as soft"), "")
+}
+
+#[test]
+fn coding_prints_what_the_library_gives() {
+    let mut payload = [0; 37];
+    for place in [1, 3, 5, 16, 18] {
+        payload[place] = 1;
+    }
+    let numbers = speltfeather::Numbers {
+        a: 37,
+        e: 432,
+        rnti: 0xFFFF,
+        n_id: 1,
+    };
+    let mut coded = [0; 432];
+    speltfeather::encode(&numbers, &payload, &mut coded).expect("accepted");
+    let bits: String = coded.iter().map(u8::to_string).collect();
+    assert_eq!(
+        printed(&format!("encode {NUMBERS} {SIB1} --as bits"), ""),
+        format!("{bits}\n")
+    );
+    let digits: String = coded
+        .chunks(4)
+        .map(|four| format!("{:x}", four.iter().fold(0, |digit, bit| 2 * digit + bit)))
+        .collect();
+    assert_eq!(
+        printed(&format!("encode {NUMBERS} {SIB1}"), ""),
+        format!("{digits}\n")
+    );
+    let strip = printed(&format!("encode {NUMBERS} {SIB1} --as strip"), "");
+    let cells: String = strip.chars().filter(|c| ['·', '█'].contains(c)).collect();
+    assert_eq!(cells.replace('·', "0").replace('█', "1"), bits);
+}
+
+#[test]
+fn a_payload_may_be_bits_or_digits() {
+    let coded = printed(&format!("encode {NUMBERS} {SIB1}"), "");
+    for payload in [
+        SIB1_BITS,
+        "0x5400A00000",
+        "54_00a_00000",
+        &format!("0b{SIB1_BITS}"),
+    ] {
+        let line = format!("encode --payload={payload} {NUMBERS}");
+        assert_eq!(printed(&line, ""), coded, "{payload}");
+    }
+}
+
+#[test]
+fn what_was_coded_is_read_back() {
+    let soft = soft_row();
+    let decode = format!("decode {NUMBERS}");
+    assert_eq!(printed(&decode, &soft), "5400a00000\n");
+    assert_eq!(printed(&format!("{decode} -"), &soft), "5400a00000\n");
+    assert_eq!(
+        printed(&format!("{decode} --as bits"), &soft),
+        format!("{SIB1_BITS}\n")
+    );
+    let with_commas = format!(
+        "# a row\n{}",
+        soft.trim().replace([' ', '\n'], ",").replace("64", "3")
+    );
+    assert_eq!(printed(&decode, &with_commas), "5400a00000\n");
+}
+
+#[test]
+fn soft_values_are_read_from_a_file() {
+    let file = env::temp_dir().join(format!("dci-soft-{}.txt", std::process::id()));
+    fs::write(&file, soft_row()).expect("a file for the row");
+    let line = format!("decode {NUMBERS} {}", file.display());
+    assert_eq!(printed(&line, ""), "5400a00000\n");
+    fs::remove_file(file).expect("the file is there");
+}
+
+#[test]
+fn each_answer_is_the_status_and_names_the_option() {
+    let rest = "--rnti 1 --id 2 --payload 000";
+    let cases: [(&str, i32, &[&str]); 6] = [
+        ("--size 11 --length 108", 1, &["--size 11", "12 to 140"]),
+        ("--size 141 --length 432", 1, &["--size 141", "12 to 140"]),
+        (
+            "--size 12 --length 107",
+            2,
+            &["--length 107", "108, 216, 432, 864 or 1728"],
+        ),
+        (
+            "--size 85 --length 108",
+            3,
+            &["--size 85", "--length 108", "at most 84"],
+        ),
+        (
+            "--size 13 --length 108",
+            4,
+            &["--payload", "3 bits", "13 bits or 4 hex"],
+        ),
+        (
+            "--size 18446744073709551615 --length 108",
+            1,
+            &["--size 18446744073709551615"],
+        ),
+    ];
+    for (sizes, number, said) in cases {
+        assert_refused(&format!("encode {sizes} {rest}"), "", number, said);
+        let said = format!("answer {number}");
+        assert_refused(&format!("encode {sizes} {rest}"), "", number, &[&said]);
+    }
+    let sizes = "--size 12 --length 108 --rnti 1 --id 2";
+    assert_refused(
+        &format!("encode {sizes} --payload 000000020000"),
+        "",
+        6,
+        &["--payload has 2 at place 7"],
+    );
+}
+
+#[test]
+fn decoding_names_what_is_wrong_with_a_row() {
+    let decode = format!("decode {NUMBERS}");
+    let soft = soft_row();
+    assert_refused(&decode, "1 2 3", 4, &["3 soft values", "432", "--length"]);
+    assert_refused(&decode, "", 4, &["0 soft values"]);
+    let large = soft.replacen('\n', " -128\n", 1).replacen("64 ", "", 1);
+    assert_refused(&decode, &large, 6, &["is -128 (line 1)", "-127 to 127"]);
+    let other = decode.replace("0xffff", "0xfffe");
+    assert_refused(&other, &soft, 7, &["answer 7", "parity"]);
+    let bits = "0 1 ".repeat(216);
+    assert_refused(&decode, &bits, 7, &["are they bits?"]);
+    assert_refused(&decode, "1 2\n3 x", 66, &["line 2", "`x`", "-127 to 127"]);
+    let missing = format!("{decode} no/such/file");
+    assert_refused(&missing, "", 66, &["no/such/file", "soft values"]);
+}
+
+#[test]
+fn wrong_command_lines_are_explained() {
+    let cases: [(&str, &[&str]); 13] = [
+        ("", &["no command", "encode, decode, info or answers"]),
+        (
+            "encoded",
+            &["`encoded` is not a command", "expected encode"],
+        ),
+        (
+            "encode",
+            &["--size is missing", "12 to 140", "dci help encode"],
+        ),
+        ("encode --size", &["--size has no value"]),
+        ("encode --size 1 --size 2", &["--size stands twice"]),
+        ("encode --sise 12", &["--sise is not an option", "--size"]),
+        ("encode --size twelve", &["--size twelve", "12 to 140"]),
+        ("encode --size -12", &["--size -12"]),
+        (
+            "encode --size 12 --length 108 --rnti 65536",
+            &["--rnti 65536", "0 to 65535"],
+        ),
+        (
+            "encode --size 12 --length 108 --rnti 0x --id 1",
+            &["--rnti 0x", "0 to 65535"],
+        ),
+        (
+            "encode --size 12 --length 108 --rnti 1 --id 1 --payload 0g1",
+            &["--payload 0g1", "12 bits or 3 hexadecimal digits"],
+        ),
+        (
+            "encode --size 13 --length 108 --rnti 1 --id 1 --payload fff1",
+            &["--payload fff1", "last 3 bits"],
+        ),
+        (
+            "encode --size 12 --length 108 --rnti 1 --id 1 --payload 0 --as octal",
+            &["--as octal", "hex, bits, strip or soft"],
+        ),
+    ];
+    for (line, said) in cases {
+        assert_refused(line, "", 64, said);
+    }
+    assert_refused("answers now", "", 64, &["`now`"]);
+    assert_refused(&format!("decode {NUMBERS} one two"), "", 64, &["`two`"]);
+    assert_refused("help me", "", 64, &["`me` is not a command"]);
+}
+
+#[test]
+fn each_command_has_help() {
+    let general = printed("help", "");
+    assert_eq!(printed("--help", ""), general);
+    for command in &cli::commands::COMMANDS {
+        assert!(general.contains(command.name));
+        let help = printed(&format!("help {}", command.name), "");
+        assert_eq!(printed(&format!("{} --help", command.name), ""), help);
+        for option in command.options {
+            assert!(help.contains(option.name), "{}", option.name);
+        }
+        assert!(help.lines().all(|line| line.len() <= 80), "{help}");
+    }
+}
+
+#[test]
+fn the_answers_are_listed() {
+    let out = printed("answers", "");
+    for number in 0..=7 {
+        assert!(out.contains(&format!("\n{number}  ")) || out.starts_with(&format!("{number}  ")));
+    }
+    assert!(out.contains("SPELT_PARITY_MISMATCH") && out.contains("Refusal::BadEntry(place)"));
+}
