@@ -25,7 +25,7 @@ use Rattle.nr.proofs.Interleaver.{length-deinterleave, bits-deinterleave}
 use Rattle.nr.proofs.SuccessiveDecoder.{bits-successive}
 use Rattle.nr.proofs.Construction.{accepted, positions}
 use Rattle.rows.proofs.Parts.{front-back, front-room, front-size}
-use Rattle.dci.specs.Checks.{judged}
+use Rattle.dci.specs.Judged.{judged}
 
 module _ (s : Numbers) (ok : refusal (s .a) (s .e) ≡ 0) (soft : List ℤ) (out : List ℕ) (size : length out ≡ s .a) where
   -- the row as it was received, the RNTI on it

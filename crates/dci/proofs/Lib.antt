@@ -1,6 +1,5 @@
--- Laws of the checks, of placing, and of coding from its steps.
-pub mod Refusing
-pub mod Outside
+-- Laws of the ranges, of coding and decoding from their steps, and of the self-test.
+pub mod Ranges
 pub mod Made
 pub mod Outcomes
 pub mod Judging

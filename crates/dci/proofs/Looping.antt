@@ -31,7 +31,7 @@ use Rattle.nr.proofs.SoftRows.{natAbs-negateIf, length-descramble, getD-descram
 use Rattle.nr.proofs.Demand3.{demand3}
 use Rattle.nr.proofs.Loopback.{strength-range, Loops, looped-found}
 use Rattle.construction.proofs.Sizes.{size}
-use Rattle.dci.specs.Checks.{sizeRefusal, Says}
+use Rattle.checks.specs.Checks.{sizeRefusal, Says}
 use Rattle.dci.specs.Loops.{signed, found}
 use Rattle.dci.proofs.Outcomes.{place-0, place-6, passes, payload-bits}
 

@@ -27,7 +27,8 @@ use Rattle.nr.specs.Coding.{coded, badByte, codingFor, coding}
 use Rattle.nr.specs.Decoding.{received, orParity, badSoft, decodingFor, decoding}
 use Rattle.nr.proofs.Ints.{Within}
 use Rattle.nr.proofs.Refusals.{Passes, passes-exactly, before-first}
-use Rattle.dci.specs.Checks.{sizeRefusal, Says, judged}
+use Rattle.checks.specs.Checks.{sizeRefusal, Says}
+use Rattle.dci.specs.Judged.{judged}
 
 -- an answer of the other variants has another number than 0
 pub refused : (r : Answer) → OneOf (1 ∷ 2 ∷ 3 ∷ 4 ∷ 5 ∷ 6 ∷ 7 ∷ []) (tagOf the-type r) → number r ≡ 0 → ⊥

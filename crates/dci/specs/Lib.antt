@@ -1,3 +1,3 @@
 -- What the functions of this crate cite besides the definitions of nr.
-pub mod Checks
+pub mod Judged
 pub mod Loops

@@ -6,86 +6,19 @@ ghost use mathlib.Core.Path.{_≡_};
 ghost use mathlib.Core.Bool.{cond};
 ghost use Prim.Native.Nat.{_≤_};
 ghost use lib.ListN.{length};
-ghost use Rattle.nr.specs.Rows.{first, has, entries, Bits};
+ghost use Rattle.nr.specs.Rows.{entries, Bits};
 ghost use Rattle.nr.specs.Numbers.{K};
-ghost use Rattle.nr.specs.Answer.{lengths, refusal, outcome, given};
+ghost use Rattle.nr.specs.Answer.{refusal, outcome, given};
 ghost use Rattle.nr.specs.Construction.{layout};
 ghost use Rattle.nr.specs.Interleaver.{deinterleave};
 ghost use Rattle.nr.specs.Scrambling.{cInit};
-ghost use Rattle.nr.specs.Coding.{coded, badByte, coding};
+ghost use Rattle.nr.specs.Coding.{coded, coding};
 ghost use Rattle.nr.specs.Decoding.{decided, decoding};
 ghost use Rattle.nr.specs.Loopback.{looped};
 ghost use Rattle.nr.proofs.Ints.{Within};
 ghost use Rattle.nr.proofs.Loopback.{Loops};
-ghost use Rattle.dci.specs.Checks.{sizeRefusal, Says, beyond, judged};
+ghost use Rattle.dci.specs.Judged.{judged};
 ghost use Rattle.dci.specs.Loops.{signed, found};
-
-// Whether E is one of the coded lengths.
-fn is_coded_length(e: u64) -> bool
-    ensures { λ r. ⌜ r ≡ has e lengths ⌝ }
-{
-    match e {
-        108 | 216 | 432 | 864 | 1728 => true,
-        _ => false,
-    }
-}
-
-// The answers 1 to 5, in their order; done if none applies.
-fn check_sizes(a: u64, e: u64, input: usize, asked: u64, out: usize, wanted: u64) -> Answer
-    ensures { λ r. ⌜ Says (sizeRefusal a e input asked out wanted) r ⌝ }
-{
-    if a < 12 {
-        return Answer::PayloadSize;
-    }
-    if 140 < a {
-        return Answer::PayloadSize;
-    }
-    if !is_coded_length(e) {
-        return Answer::CodedLength;
-    }
-    if e < a + 24 {
-        return Answer::TooManyBits;
-    }
-    if input as u64 != asked {
-        return Answer::InputLength;
-    }
-    if out as u64 != wanted {
-        return Answer::OutputLength;
-    }
-    Answer::Done
-}
-
-// The place of the first byte above 1, or the payload's length.
-fn first_bad(payload: &[u8]) -> usize
-    ensures { λ r. ⌜ r ≡ first badByte (now (payload .entry)) ⌝ }
-{
-    let mut i = 0;
-    while i < payload.len() {
-        if 1 < payload[i] {
-            return i;
-        }
-        i += 1;
-    }
-    i
-}
-
-// The place of the first value below `low` or above `high`, or the row's length.
-fn first_outside(row: &[i32], low: i32, high: i32) -> usize
-    ensures { λ r. ⌜ r ≡ first (beyond low high) (now (row .entry)) ⌝ }
-{
-    let mut i = 0;
-    while i < row.len() {
-        let x = row[i];
-        if x < low {
-            return i;
-        }
-        if high < x {
-            return i;
-        }
-        i += 1;
-    }
-    i
-}
 
 // The E scrambled bits of a payload of A bits.
 fn write(numbers: Numbers, payload: &[u8], out: &mut [u8])
@@ -108,11 +41,11 @@ pub fn encode(numbers: Numbers, payload: &[u8], out: &mut [u8]) -> Answer
 {
     let a = numbers.a;
     let e = numbers.e;
-    let answer = check_sizes(a, e, payload.len(), a, out.len(), e);
+    let answer = checks::check_sizes(a, e, payload.len(), a, out.len(), e);
     let Answer::Done = answer else {
         return answer;
     };
-    let bad = first_bad(payload);
+    let bad = checks::first_bad(payload);
     if bad < payload.len() {
         return Answer::BadEntry(bad);
     }
@@ -171,11 +104,11 @@ pub fn decode(numbers: Numbers, soft: &[i32], out: &mut [u8]) -> Decoded
 {
     let a = numbers.a;
     let e = numbers.e;
-    let answer = check_sizes(a, e, soft.len(), e, out.len(), a);
+    let answer = checks::check_sizes(a, e, soft.len(), e, out.len(), a);
     let Answer::Done = answer else {
         return Decoded { answer };
     };
-    let bad = first_outside(soft, -127, 127);
+    let bad = checks::first_outside(soft, -127, 127);
     if bad < soft.len() {
         return Decoded {
             answer: Answer::BadEntry(bad),
@@ -216,19 +149,19 @@ pub fn loopback(numbers: Numbers, payload: &[u8], strengths: &[i32], out: &mut [
 {
     let a = numbers.a;
     let e = numbers.e;
-    let first = check_sizes(a, e, payload.len(), a, 0, 0);
+    let first = checks::check_sizes(a, e, payload.len(), a, 0, 0);
     let Answer::Done = first else {
         return first;
     };
-    let second = check_sizes(a, e, strengths.len(), e, out.len(), a);
+    let second = checks::check_sizes(a, e, strengths.len(), e, out.len(), a);
     let Answer::Done = second else {
         return second;
     };
-    let byte = first_bad(payload);
+    let byte = checks::first_bad(payload);
     if byte < payload.len() {
         return Answer::BadEntry(byte);
     }
-    let strength = first_outside(strengths, 1, 127);
+    let strength = checks::first_outside(strengths, 1, 127);
     if strength < strengths.len() {
         return Answer::BadEntry(payload.len() + strength);
     }

@@ -7,7 +7,7 @@ use lib.ListN.{length}
 use borrow.Author.Needs.{needs}
 use Rattle.nr.specs.Rows.{first}
 use Rattle.nr.specs.Decoding.{badSoft}
-use Rattle.dci.proofs.Outside.{first-soft}
+use Rattle.dci.proofs.Ranges.{first-soft}
 use Rattle.dci.proofs.Outcomes.{refused, decoding-sizes, decoding-entry, decoding-passes, decoding-judged, soft-within}
 use Rattle.dci.proofs.decode.Statement.{statement}
 use Rattle.dci.proofs.decode.Tie as tie

@@ -8,7 +8,7 @@ use borrow.Author.Needs.{needs}
 use Rattle.nr.specs.Rows.{first}
 use Rattle.nr.specs.Coding.{badByte}
 use Rattle.nr.specs.Loopback.{badStrength}
-use Rattle.dci.proofs.Outside.{first-strength}
+use Rattle.dci.proofs.Ranges.{first-strength}
 use Rattle.dci.proofs.Outcomes.{refused}
 use Rattle.dci.proofs.Looping.{first-refused, second-refused, byte-refused, place-fits, strength-refused, loops, loop-done}
 use Rattle.dci.proofs.loopback.Statement.{statement}

@@ -12,7 +12,7 @@ use Rattle.nr.specs.Numbers.{K}
 use Rattle.nr.specs.Answer.{lengths, number, placeOf}
 use Rattle.nr.proofs.Tests.{isn't}
 use Rattle.nr.proofs.Refusals.{which}
-use Rattle.dci.specs.Checks.{sizeRefusal, Says}
+use Rattle.checks.specs.Checks.{sizeRefusal, Says}
 
 -- ---- the coded lengths
 

@@ -1,4 +1,4 @@
--- `dci::first_outside` meets its contract.
+-- `checks::first_outside` meets its contract.
 -- Assumes nothing.
 use Prim.Native.Nat.{ℕ, _+_, _-_, _≤_}
 use native.Mathlib.Omega.{arith}
@@ -9,10 +9,10 @@ use borrow.Author.Needs.{needs}
 use mir.Syntax.{w32}
 use mir.Val.{toZ, ofZ}
 use Rattle.nr.specs.Rows.{first}
-use Rattle.dci.specs.Checks.{beyond}
-use Rattle.dci.proofs.Outside.{below-hit, above-hit, inside-miss, limits}
-use Rattle.dci.proofs.first_outside.Statement.{statement}
-use Rattle.dci.proofs.first_outside.Tie as tie
+use Rattle.checks.specs.Checks.{beyond}
+use Rattle.checks.proofs.Outside.{below-hit, above-hit, inside-miss, limits}
+use Rattle.checks.proofs.first_outside.Statement.{statement}
+use Rattle.checks.proofs.first_outside.Tie as tie
 
 -- low and high stand in the loop by their bits
 abbrev Inv-loop : tie.InvT-loop

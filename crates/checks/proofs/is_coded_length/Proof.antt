@@ -1,10 +1,10 @@
--- `dci::is_coded_length` meets its contract.
+-- `checks::is_coded_length` meets its contract.
 -- Assumes nothing.
 use mathlib.Core.Path.{sym}
 use Rattle.nr.proofs.Refusals.{listed}
-use Rattle.dci.proofs.Refusing.{unlisted}
-use Rattle.dci.proofs.is_coded_length.Statement.{statement}
-use Rattle.dci.proofs.is_coded_length.Tie as tie
+use Rattle.checks.proofs.Refusing.{unlisted}
+use Rattle.checks.proofs.is_coded_length.Statement.{statement}
+use Rattle.checks.proofs.is_coded_length.Tie as tie
 
 returns : tie.Need-returns
 returns c = sym (listed (c .before .args .e) (c .match .keys1))

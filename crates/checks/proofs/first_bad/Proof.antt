@@ -1,4 +1,4 @@
--- `dci::first_bad` meets its contract.
+-- `checks::first_bad` meets its contract.
 -- Assumes nothing.
 use Prim.Native.Nat.{ℕ, _+_, _-_, _≤_}
 use native.Mathlib.Omega.{arith}
@@ -9,8 +9,8 @@ use borrow.Author.Tests.{lt-ltb, le-ltb}
 use Rattle.nr.specs.Rows.{first}
 use Rattle.nr.specs.Coding.{badByte}
 use Rattle.nr.proofs.Refusals.{first-hit, first-miss}
-use Rattle.dci.proofs.first_bad.Statement.{statement}
-use Rattle.dci.proofs.first_bad.Tie as tie
+use Rattle.checks.proofs.first_bad.Statement.{statement}
+use Rattle.checks.proofs.first_bad.Tie as tie
 
 abbrev Inv-loop : tie.InvT-loop
 Inv-loop payload i₀ i = (i ≤ length payload) × (first badByte payload ≡ i + first badByte (drop i payload))

@@ -1,14 +1,14 @@
--- `dci::check_sizes` meets its contract.
+-- `checks::check_sizes` meets its contract.
 -- Assumes nothing.
 use mathlib.Core.Path.{_≡_, sym, _∙_}
 use mathlib.Core.Bool.{true, false}
 use borrow.Author.Tests.{not-true, not-false}
 use Rattle.nr.specs.Rows.{has}
 use Rattle.nr.specs.Answer.{lengths}
-use Rattle.dci.proofs.Refusing.{too-small, too-large, not-listed, too-many, wrong-input, wrong-output, fine}
+use Rattle.checks.proofs.Refusing.{too-small, too-large, not-listed, too-many, wrong-input, wrong-output, fine}
 use borrow.Author.Needs.{needs}
-use Rattle.dci.proofs.check_sizes.Statement.{statement}
-use Rattle.dci.proofs.check_sizes.Tie as tie
+use Rattle.checks.proofs.check_sizes.Statement.{statement}
+use Rattle.checks.proofs.check_sizes.Tie as tie
 
 -- what the call of `is_coded_length` says, by the branch that follows it
 absent : (c : tie.Then3) → false ≡ has (c .before .before .before .before .args .e) lengths

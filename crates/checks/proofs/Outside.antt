@@ -1,23 +1,18 @@
--- The loop that looks for a value outside a range; the ranges of soft values and of strengths.
+-- The loop that looks for a value outside a range.
 -- Assumes nothing.
 use Prim.Native.Nat.{ℕ, suc, _+_, _<_}
-use native.Mathlib.Omega.{arith}
-use mathlib.Core.Path.{_≡_, refl, sym, ap₂}
-use mathlib.Core.Bool.{Bool, true, false, cond, _||_}
-use mathlib.Core.List.{List, [], _∷_}
-use lib.Dec.{ltb}
-use lib.IntN.{ℤ, pos, negsuc}
+use mathlib.Core.Path.{_≡_, refl, ap₂}
+use mathlib.Core.Bool.{Bool, true, false, _||_}
+use mathlib.Core.List.{List}
+use lib.IntN.{ℤ, pos}
 use lib.Signed.{ltZ}
 use lib.ListN.{length, getD, drop}
-use borrow.Author.Tests.{lt-ltb, le-ltb, ltb-true, ltb-false}
 use mir.Syntax.{w32}
 use mir.Val.{SFits, toZ, ofZ}
 use mir.ValLaws.{toZ-ofZ}
 use Rattle.nr.specs.Rows.{first}
-use Rattle.nr.specs.Decoding.{badSoft}
-use Rattle.nr.specs.Loopback.{badStrength}
 use Rattle.nr.proofs.Refusals.{first-hit, first-miss}
-use Rattle.dci.specs.Checks.{beyond}
+use Rattle.checks.specs.Checks.{beyond}
 
 -- ---- a turn, by its two tests, in which the value stands by its bits
 
@@ -41,25 +36,3 @@ module _ (low high : ℤ) (row : List ℤ) (i : ℕ) (l : i < length row) (f : S
 pub limits : (low high : ℤ) → SFits w32 low → SFits w32 high → (row : List ℤ)
     → first (beyond (toZ w32 (ofZ w32 low)) (toZ w32 (ofZ w32 high))) row ≡ first (beyond low high) row
 limits low high p q row = ap₂ (λ (a b : ℤ). first (beyond a b) row) (toZ-ofZ w32 low p) (toZ-ofZ w32 high q)
-
--- ---- the ranges
-
-first-same : {X : Type 0} (f g : X → Bool) → ((x : X) → f x ≡ g x) → (row : List X) → first f row ≡ first g row
-first-same f g e [] = refl
-first-same f g e (x ∷ row) = ap₂ (λ (b : Bool) (k : ℕ). cond b 0 (suc k)) (e x) (first-same f g e row)
-
-soft-beyond : (x : ℤ) → beyond (negsuc 126) (pos 127) x ≡ badSoft x
-unfolding badSoft
-soft-beyond (pos n) = refl
-soft-beyond (negsuc n) = go (ltb 126 n) refl
-  where
-    go : (b : Bool) → ltb 126 n ≡ b → b || false ≡ ltb 127 (suc n)
-    go true e = let h = ltb-true 126 n e in sym (lt-ltb 127 (suc n) (omega arith))
-    go false e = let h = ltb-false 126 n e in sym (le-ltb 127 (suc n) (omega arith))
-
-pub first-soft : (row : List ℤ) → first (beyond (negsuc 126) (pos 127)) row ≡ first badSoft row
-first-soft = first-same (beyond (negsuc 126) (pos 127)) badSoft soft-beyond
-
-pub first-strength : (row : List ℤ) → first (beyond (pos 1) (pos 127)) row ≡ first badStrength row
-unfolding badStrength
-first-strength row = refl

@@ -1,0 +1,3 @@
+-- Laws of the checks.
+pub mod Refusing
+pub mod Outside
