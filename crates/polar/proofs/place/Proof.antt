@@ -30,6 +30,15 @@ below c =
     let ps = s .before .args .positions .now in
     s .before .pre .0 .1 .below (getD ps (s .loop .i) 0) (has-getD ps (s .loop .i) 0 (omega arith))
 
+loop-again : tie.Need-loop-again Inv-loop μ-loop
+loop-again c =
+    let s = c .before .before .before in
+    let a = s .before .args in (
+      omega arith,
+      ap (λ (r : List ℕ). set r (getD (a .positions .now) (s .loop .i) 0) (getD (a .bits .now) (s .loop .i) 0)) (s .loop .inv .1)
+          ∙ placed-next (length (a .u .now)) (a .positions .now) (a .bits .now) (s .before .pre .0 .0) (s .before .pre .0 .1 .rising) (s .loop .i) (omega arith) (below (c .before .before)),
+    )
+
 loop-holds : tie.Need-loop-holds Inv-loop μ-loop
 loop-holds c = (omega arith, c .pre .1 ∙ placed-none (length (c .args .u .now)))
 
@@ -53,15 +62,6 @@ add-i c = omega arith
 
 loop-less : tie.Need-loop-less Inv-loop μ-loop
 loop-less c = omega arith
-
-loop-again : tie.Need-loop-again Inv-loop μ-loop
-loop-again c =
-    let s = c .before .before .before in
-    let a = s .before .args in (
-      omega arith,
-      ap (λ (r : List ℕ). set r (getD (a .positions .now) (s .loop .i) 0) (getD (a .bits .now) (s .loop .i) 0)) (s .loop .inv .1)
-          ∙ placed-next (length (a .u .now)) (a .positions .now) (a .bits .now) (s .before .pre .0 .0) (s .before .pre .0 .1 .rising) (s .loop .i) (omega arith) (below (c .before .before)),
-    )
 
 same-length : tie.Need-same-length Inv-loop μ-loop
 same-length c = row-length (c .before)
