@@ -12,6 +12,7 @@ use Rattle.nr.specs.Answer.{lengths}
 use Rattle.nr.specs.Construction.{log2up, n, N, lowRate, rateMatching}
 use Rattle.nr.proofs.Tests.{all, all-has, holds}
 use Rattle.nr.proofs.Construction.{Sized, exponent, n-by-length}
+use Rattle.nr.proofs.Refusals.{longest}
 use Rattle.construction.specs.Window.{Applies}
 
 -- ---- the code length
@@ -34,16 +35,16 @@ pub record Size (E n : ℕ) : Type 0 where
   pub len : 2 ^ n ≤ 512
   pub length : E ≤ 1728
 
-size-test : T (all (λ E. leb 5 (exponent E)) lengths) × T (all (λ E. leb (exponent E) 9) lengths) × T (all (λ E. leb (2 ^ exponent E) 512) lengths) × T (all (λ E. leb E 1728) lengths)
+size-test : T (all (λ E. leb 5 (exponent E)) lengths) × T (all (λ E. leb (exponent E) 9) lengths) × T (all (λ E. leb (2 ^ exponent E) 512) lengths)
 unfolding log2up
-size-test = (tt, tt, tt, tt)
+size-test = (tt, tt, tt)
 
 pub size : (E : ℕ) → T (has E lengths) → Size E (exponent E)
 size E h = record {
   low = leb→le 5 (exponent E) (all-has (λ F. leb 5 (exponent F)) lengths (size-test .0) E h);
   high = leb→le (exponent E) 9 (all-has (λ F. leb (exponent F) 9) lengths (size-test .1) E h);
   len = leb→le (2 ^ exponent E) 512 (all-has (λ F. leb (2 ^ exponent F) 512) lengths (size-test .2) E h);
-  length = leb→le E 1728 (all-has (λ F. leb F 1728) lengths (size-test .3) E h);
+  length = longest E h;
 }
 
 -- ---- the kind

@@ -24,13 +24,12 @@ use Rattle.nr.specs.Decoding.{decoding}
 use Rattle.nr.specs.Demand3.{Accepted, Payload, Noiseless}
 use Rattle.nr.specs.Loopback.{badStrength, looped}
 use Rattle.nr.proofs.Ints.{Within}
-use Rattle.nr.proofs.Refusals.{before-first}
+use Rattle.nr.proofs.Refusals.{longest, before-first}
 use Rattle.nr.proofs.Construction.{accepted}
 use Rattle.nr.proofs.Demand1.{coding-whole}
 use Rattle.nr.proofs.SoftRows.{natAbs-negateIf, length-descramble, getD-descramble}
 use Rattle.nr.proofs.Demand3.{demand3}
-use Rattle.nr.proofs.Loopback.{strength-range, Loops, looped-found}
-use Rattle.construction.proofs.Sizes.{size}
+use Rattle.nr.proofs.Loopback.{strength-range, Loops, whole, looped-is, looped-found}
 use Rattle.checks.specs.Checks.{sizeRefusal, Says}
 use Rattle.dci.specs.Loops.{signed, found}
 use Rattle.dci.proofs.Outcomes.{place-0, place-6, passes, payload-bits}
@@ -73,10 +72,7 @@ module _ (s : Numbers) (sent : List ℕ) (bits : Bits sent) (strengths : List �
     negative = λ k h z. let q = strength-at k h in rw (value k h, z, q .1 .0) (ltZ-yes tt);
   }
 
--- E is short, and strengths are small
-pub short : (s : Numbers) → Accepted s → s .e ≤ 1728
-short s a = size (s .e) (accepted (s .a) (s .e) a .length) .length
-
+-- strengths are small
 pub strengths-within : (s : Numbers) (payload : List ℕ) (strengths : List ℤ) (out : List ℕ) → Loops s payload strengths out → Within 127 strengths
 strengths-within s payload strengths out l k = elim (decLe (length strengths) k) [
   | yes m ↦ omega (arith, ap natAbs (List·getD-eq-default strengths (pos 0) {n = k} m))
@@ -157,22 +153,13 @@ module _ (s : Numbers) (payload : List ℕ) (strengths : List ℤ) (out : List �
   abbrev place : ℕ
   place = cond (ltb byte (length payload)) byte (s .a + strength)
 
-  abbrev whole : ℕ
-  whole =
-      both (outside (s .a)) (not (has (s .e) lengths)) (ltb (s .e) (K (s .a))) (not (eqb (length payload) (s .a))) (not (eqb (length strengths) (s .e)))
-      (not (eqb (length out) (s .a))) bad
-
-  looped-is : looped s payload strengths out ≡ outcome whole place payload out
-  unfolding looped
-  looped-is = refl
-
   module _ (r₁ : Answer) (y₁ : Says (sizeRefusal (s .a) (s .e) (length payload) (s .a) 0 0) r₁) where
     pub first-refused : (number r₁ ≡ 0 → ⊥) → given r₁ out ≡ looped s payload strengths out
     unfolding given
     first-refused n =
         let t = first-applies (outside (s .a)) (not (has (s .e) lengths)) (ltb (s .e) (K (s .a))) (not (eqb (length payload) (s .a)))
         (not (eqb (length strengths) (s .e))) (not (eqb (length out) (s .a))) bad (λ e. n (y₁ .number ∙ e)) in
-        cc (y₁ .number, y₁ .place, t .0, looped-is, place-0 (λ i. i) (λ i. refl) place payload out (sizeRefusal (s .a) (s .e) (length payload) (s .a) 0 0) (λ e. n (y₁ .number ∙ e)) (t .1))
+        cc (y₁ .number, y₁ .place, t .0, looped-is s payload strengths out, place-0 (λ i. i) (λ i. refl) place payload out (sizeRefusal (s .a) (s .e) (length payload) (s .a) 0 0) (λ e. n (y₁ .number ∙ e)) (t .1))
 
     module _ (e₁ : r₁ ≡ Done) (r₂ : Answer) (y₂ : Says (sizeRefusal (s .a) (s .e) (length strengths) (s .e) (length out) (s .a)) r₂) where
       none₁ : sizeRefusal (s .a) (s .e) (length payload) (s .a) 0 0 ≡ 0
@@ -184,10 +171,10 @@ module _ (s : Numbers) (payload : List ℕ) (strengths : List ℤ) (out : List �
       second-refused n =
           let t = second-applies (outside (s .a)) (not (has (s .e) lengths)) (ltb (s .e) (K (s .a))) (not (eqb (length payload) (s .a)))
           (not (eqb (length strengths) (s .e))) (not (eqb (length out) (s .a))) bad none₁ (λ e. n (y₂ .number ∙ e)) in
-          cc (y₂ .number, y₂ .place, t .0, looped-is, place-0 (λ i. i) (λ i. refl) place payload out (sizeRefusal (s .a) (s .e) (length strengths) (s .e) (length out) (s .a)) (λ e. n (y₂ .number ∙ e)) (t .1))
+          cc (y₂ .number, y₂ .place, t .0, looped-is s payload strengths out, place-0 (λ i. i) (λ i. refl) place payload out (sizeRefusal (s .a) (s .e) (length strengths) (s .e) (length out) (s .a)) (λ e. n (y₂ .number ∙ e)) (t .1))
 
       module _ (e₂ : r₂ ≡ Done) where
-        left : whole ≡ cond bad 6 0
+        left : whole s payload strengths out ≡ cond bad 6 0
         unfolding number
         left =
             neither-applies (outside (s .a)) (not (has (s .e) lengths)) (ltb (s .e) (K (s .a))) (not (eqb (length payload) (s .a)))
@@ -199,7 +186,7 @@ module _ (s : Numbers) (payload : List ℕ) (strengths : List ℤ) (out : List �
         unfolding given number placeOf
         six x y p q t k m =
             ap (λ (at : ℕ). record { number = 6; place = at; buffer = out }) (m ∙ ap (λ (u : Bool). cond u byte (s .a + strength)) (sym p))
-            ∙ sym (looped-is ∙ ap (λ (i : ℕ). outcome i place payload out) (left ∙ ap (λ (u : Bool). cond u 6 0) (ap₂ _||_ p q ∙ t)) ∙ place-6 (λ i. i) (λ i. refl) place payload out)
+            ∙ sym (looped-is s payload strengths out ∙ ap (λ (i : ℕ). outcome i place payload out) (left ∙ ap (λ (u : Bool). cond u 6 0) (ap₂ _||_ p q ∙ t)) ∙ place-6 (λ i. i) (λ i. refl) place payload out)
 
         pub byte-refused : (k : ℕ) → k ≡ byte → k < length payload → given (BadEntry k) out ≡ looped s payload strengths out
         byte-refused k m l =
@@ -219,7 +206,7 @@ module _ (s : Numbers) (payload : List ℕ) (strengths : List ℤ) (out : List �
 
           -- the sum of lengths that the place is
           pub place-fits : (k : ℕ) → k < length strengths → length payload + k < 2000
-          place-fits k l = omega (arith, payload-size, strengths-size, accepted (s .a) (s .e) pair .high, short s pair)
+          place-fits k l = omega (arith, payload-size, strengths-size, accepted (s .a) (s .e) pair .high, longest (s .e) (accepted (s .a) (s .e) pair .length))
 
           pub strength-refused : (k : ℕ) → k ≡ strength → k < length strengths → given (BadEntry (length payload + k)) out ≡ looped s payload strengths out
           strength-refused k m l =

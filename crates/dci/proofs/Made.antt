@@ -60,6 +60,3 @@ module _ (A E : ℕ) (e : refusal A E ≡ 0) (made : Made) (lays : Lays (layout 
 
   pub laid : Positions (2 ^ made .n) (take (K A) (made .positions))
   laid = record { few = is-sound .few; rising = is-sound .rising; below = is-sound .below }
-
-  pub short : E ≤ 1728
-  short = size E (sized .length) .length

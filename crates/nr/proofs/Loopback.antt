@@ -54,12 +54,12 @@ module _ (s : Numbers) (payload : List ℕ) (strengths : List ℤ) (out : List �
   abbrev chain : Bool → Bool → Bool → Bool → Bool → Bool → Bool → Bool → ℕ
   chain a b c p q o x y = firstOf 1 (a ∷ b ∷ c ∷ (not p || not q) ∷ not o ∷ (x || y) ∷ [])
 
-  abbrev whole : ℕ
+  abbrev pub whole : ℕ
   whole =
       chain (outside (s .a)) (not (has (s .e) lengths)) (ltb (s .e) (K (s .a))) (eqb (length payload) (s .a)) (eqb (length strengths) (s .e))
       (eqb (length out) (s .a)) (ltb byte (length payload)) (ltb strength (length strengths))
 
-  looped-is : looped s payload strengths out ≡ outcome whole (cond (ltb byte (length payload)) byte (s .a + strength)) payload out
+  pub looped-is : looped s payload strengths out ≡ outcome whole (cond (ltb byte (length payload)) byte (s .a + strength)) payload out
   unfolding looped
   looped-is = refl
 

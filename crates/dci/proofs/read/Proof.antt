@@ -10,8 +10,10 @@ use Rattle.nr.specs.Numbers.{K}
 use Rattle.nr.specs.Interleaver.{deinterleave}
 use Rattle.nr.specs.Construction.{Layout, layout}
 use Rattle.nr.specs.Decoding.{decided}
+use Rattle.nr.proofs.Construction.{accepted}
+use Rattle.nr.proofs.Refusals.{longest}
 use Rattle.polar.specs.Codes.{code}
-use Rattle.dci.proofs.Made.{code-is, enough, exact, low, high, fits, laid, short}
+use Rattle.dci.proofs.Made.{code-is, enough, exact, low, high, fits, laid}
 use Rattle.dci.proofs.read.Statement.{statement}
 use Rattle.dci.proofs.read.Tie as tie
 
@@ -58,7 +60,7 @@ receive-requires c κs =
         low (n .a) (n .e) (s .pre .0) l e,
         high (n .a) (n .e) (s .pre .0) l e,
         rw (s .pre .1) (fits (n .a) (n .e) (s .pre .0) l e),
-        rw (s .pre .1) (short (n .a) (n .e) (s .pre .0) l e),
+        rw (s .pre .1) (longest (n .e) (accepted (n .a) (n .e) (s .pre .0) .length)),
         s .pre .3,
       ),
       (

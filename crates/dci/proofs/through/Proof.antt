@@ -6,9 +6,11 @@ use mathlib.Core.List.{_++_}
 use lib.IntN.{pos}
 use lib.ListN.{length, take, drop, replicate}
 use borrow.Author.Needs.{needs}
+use Rattle.nr.proofs.Construction.{accepted}
+use Rattle.nr.proofs.Refusals.{longest}
 use Rattle.rows.proofs.Parts.{front-back, front-room, front-size}
 use Rattle.dci.specs.Loops.{signed}
-use Rattle.dci.proofs.Looping.{short, strengths-within, loop-found}
+use Rattle.dci.proofs.Looping.{strengths-within, loop-found}
 use Rattle.dci.proofs.through.Statement.{statement}
 use Rattle.dci.proofs.through.Tie as tie
 
@@ -16,8 +18,11 @@ use Rattle.dci.proofs.through.Tie as tie
 abbrev E : tie.Start → ℕ
 E s = length (s .args .strengths .now)
 
+short : (s : tie.Start) → s .args .numbers .e ≤ 1728
+short s = longest (s .args .numbers .e) (accepted (s .args .numbers .a) (s .args .numbers .e) (s .pre .numbers) .length)
+
 room : (s : tie.Start) → E s ≤ 1728
-room s = subst (λ (m : ℕ). m ≤ 1728) (sym (s .pre .size)) (short (s .args .numbers) (s .pre .numbers))
+room s = subst (λ (m : ℕ). m ≤ 1728) (sym (s .pre .size)) (short s)
 
 size : (s : tie.Start) → length (take (E s) (replicate 1728 (pos 0))) ≡ E s
 size s = front-size (E s) 1728 (pos 0) (room s)
@@ -46,7 +51,7 @@ slice-aggregate-sign c = sym (size (c .before .before .before))
 sign-requires : tie.Need-sign-requires
 sign-requires c κs =
     let s = c .before .before .before in
-    (s .pre .size, size s ∙ s .pre .size, short (s .args .numbers) (s .pre .numbers), strengths-within (s .args .numbers) (s .args .payload .now) (s .args .strengths .now) (s .args .out .now) (s .pre))
+    (s .pre .size, size s ∙ s .pre .size, short s, strengths-within (s .args .numbers) (s .args .payload .now) (s .args .strengths .now) (s .args .out .now) (s .pre))
 
 array-share-prefix-soft : tie.Need-array-share-prefix-soft
 array-share-prefix-soft c = front-room (c .before .sign .last .1 .1 .1 .0) _ _ (back-size (c .before))

@@ -29,34 +29,26 @@ sub-result-2 c = neg-fits (c .before .before .smaller .result) (small (c .before
 returns : tie.Need-returns
 returns c =
     let s = c .before .before in
-    let a = s .before .args .a in
-    let b = s .before .args .b in
     back (s .smaller .result) (small s) ∙ least s
-    ∙ f-tt a b (told a true (s .before .fits .a) (c .before .if1 .taken)) (told b true (s .before .fits .b) (c .if2 .taken))
+    ∙ f-tt _ _ (told _ true (s .before .fits .a) (c .before .if1 .taken)) (told _ true (s .before .fits .b) (c .if2 .taken))
 
 returns-2 : tie.Need-returns-2
 returns-2 c =
     let s = c .before .before in
-    let a = s .before .args .a in
-    let b = s .before .args .b in
     neg-is (s .smaller .result) (small s) ∙ ap negℤ (least s)
-    ∙ f-tf a b (told a true (s .before .fits .a) (c .before .if1 .taken)) (told b false (s .before .fits .b) (c .if2 .left))
+    ∙ f-tf _ _ (told _ true (s .before .fits .a) (c .before .if1 .taken)) (told _ false (s .before .fits .b) (c .if2 .left))
 
 returns-4 : tie.Need-returns-4
 returns-4 c =
     let s = c .before .before in
-    let a = s .before .args .a in
-    let b = s .before .args .b in
     back (s .smaller .result) (small s) ∙ least s
-    ∙ f-ff a b (told a false (s .before .fits .a) (c .before .if1 .left)) (told b false (s .before .fits .b) (c .if3 .left))
+    ∙ f-ff _ _ (told _ false (s .before .fits .a) (c .before .if1 .left)) (told _ false (s .before .fits .b) (c .if3 .left))
 
 returns-3 : tie.Need-returns-3
 returns-3 c =
     let s = c .before .before in
-    let a = s .before .args .a in
-    let b = s .before .args .b in
     neg-is (s .smaller .result) (small s) ∙ ap negℤ (least s)
-    ∙ f-ft a b (told a false (s .before .fits .a) (c .before .if1 .left)) (told b true (s .before .fits .b) (c .if3 .taken))
+    ∙ f-ft _ _ (told _ false (s .before .fits .a) (c .before .if1 .left)) (told _ true (s .before .fits .b) (c .if3 .taken))
 
 pub check-node-spec : {M : Type 1} → statement M
 check-node-spec =
