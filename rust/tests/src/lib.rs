@@ -9,6 +9,7 @@ pub use calls::{Call, Decode, Encode, Loopback, Outcome, assert_threads_agree};
 pub use channel::Random;
 
 use speltfeather::Numbers;
+use std::env;
 
 /// Pairs with every kind of rate matching, the smallest and largest among them.
 pub const SOME_PAIRS: [(u64, u64); 6] = [
@@ -34,4 +35,14 @@ pub fn sent_bits(numbers: Numbers, payload: &[u8], random: &mut Random) -> Vec<u
     let outcome = Encode::fitting(numbers, payload.to_vec(), random).library();
     assert_eq!((outcome.number, outcome.place), (0, 0), "{numbers:?}");
     reference::scrambling::scrambled(&outcome.out, numbers.n_id)
+}
+
+/// A number from the environment, or what it is otherwise.
+pub fn setting(name: &str, otherwise: u64) -> u64 {
+    match env::var(name) {
+        Ok(text) => text
+            .parse()
+            .unwrap_or_else(|_| panic!("{name} is no number: {text}")),
+        Err(_) => otherwise,
+    }
 }

@@ -1,18 +1,7 @@
 //! Decoding of every accepted pair, over and over with new seeds: `make long`.
 
 use conformance::trials::{self, Tally};
-use conformance::{Random, accepted_pairs};
-use std::env;
-
-/// A number from the environment, or what it is otherwise.
-fn setting(name: &str, otherwise: u64) -> u64 {
-    match env::var(name) {
-        Ok(text) => text
-            .parse()
-            .unwrap_or_else(|_| panic!("{name} is no number: {text}")),
-        Err(_) => otherwise,
-    }
-}
+use conformance::{Random, accepted_pairs, setting};
 
 #[test]
 #[ignore = "takes minutes; make long"]

@@ -1,0 +1,350 @@
+//! Calls made of random bytes: numbers, lengths and contents of every kind, answered as the reference
+//! answers them, with nothing else written.
+//!
+//! `make robust` shows what was given; CALLS and SEED make the run longer or another.
+
+use conformance::faults::FAR;
+use conformance::{Outcome, Random, accepted_pairs, rows, setting, trials};
+use reference::CODED_LENGTHS;
+use speltfeather::{Numbers, Refusal};
+use std::ops::Range;
+use std::sync::atomic::{AtomicU64, Ordering};
+use std::thread;
+
+/// The calls of one seed.
+const CHUNK: u64 = 10_000;
+
+/// The greatest length of a buffer.
+const MOST: usize = 2100;
+
+/// The accepted pairs with E = 108 or 216, which come first.
+const SHORT: usize = 73 + 129;
+
+/// What the entries around a buffer hold.
+const GUARD: u8 = 0x5A;
+
+/// What a call is handed. What it does not read is empty.
+#[derive(Clone, Debug)]
+struct Input {
+    numbers: Numbers,
+    payload: Vec<u8>,
+    values: Vec<i32>,
+    out: Vec<u8>,
+}
+
+/// The lengths that a call asks for; none for what it does not read.
+struct Asked {
+    payload: Option<u64>,
+    values: Option<u64>,
+    out: u64,
+}
+
+/// A call of the library.
+struct Subject {
+    name: &'static str,
+    /// The numbers that it can give.
+    given: &'static [u8],
+    asks: fn(&Numbers) -> Asked,
+    /// Values that it takes, as many as are wanted.
+    values: fn(&Numbers, usize, &mut Random) -> Vec<i32>,
+    library: fn(&Numbers, &[u8], &[i32], &mut [u8]) -> Result<(), Refusal>,
+    reference: fn(&Numbers, &[u8], &[i32], &mut [u8]) -> (u8, usize),
+}
+
+const SUBJECTS: [Subject; 3] = [
+    Subject {
+        name: "encode",
+        given: &[0, 1, 2, 3, 4, 5, 6],
+        asks: |numbers| Asked {
+            payload: Some(numbers.a),
+            values: None,
+            out: numbers.e,
+        },
+        values: |_, _, _| vec![],
+        library: |numbers, payload, _, out| speltfeather::encode(numbers, payload, out),
+        reference: |&Numbers { a, e, rnti, n_id }, payload, _, out| {
+            reference::encode(a, e, rnti, n_id, payload, out)
+        },
+    },
+    Subject {
+        name: "decode",
+        given: &[0, 1, 2, 3, 4, 5, 6, 7],
+        asks: |numbers| Asked {
+            payload: None,
+            values: Some(numbers.e),
+            out: numbers.a,
+        },
+        values: soft_values,
+        library: |numbers, _, soft, out| speltfeather::decode(numbers, soft, out),
+        reference: |&Numbers { a, e, rnti, n_id }, _, soft, out| {
+            reference::decode(a, e, rnti, n_id, soft, out)
+        },
+    },
+    Subject {
+        name: "loopback",
+        given: &[0, 1, 2, 3, 4, 5, 6],
+        asks: |numbers| Asked {
+            payload: Some(numbers.a),
+            values: Some(numbers.e),
+            out: numbers.a,
+        },
+        values: |_, count, random| rows::strengths(count, random),
+        library: speltfeather::loopback,
+        reference: |&Numbers { a, e, rnti, n_id }, payload, strengths, out| {
+            reference::loopback(a, e, rnti, n_id, payload, strengths, out)
+        },
+    },
+];
+
+/// How often each call gave each number.
+type Tally = [[u64; 8]; SUBJECTS.len()];
+
+/// A payload size at a border, or one that a program with narrower numbers would take for it.
+fn border_size(random: &mut Random) -> u64 {
+    let border: u64 = random.pick(&[0, 11, 12, 13, 83, 84, 85, 139, 140, 141, 255]);
+    match random.below(3) {
+        0 => random.pick(&FAR).wrapping_add(border),
+        _ => border,
+    }
+}
+
+/// The same for a coded length.
+fn border_length(random: &mut Random) -> u64 {
+    let border = random.pick(&CODED_LENGTHS) + random.pick(&[0, 0, 0, 1, u64::MAX]);
+    match random.below(3) {
+        0 => random.pick(&FAR).wrapping_add(border),
+        _ => border,
+    }
+}
+
+fn sizes(random: &mut Random, accepted: &[(u64, u64)]) -> (u64, u64) {
+    match random.below(12) {
+        0 => (random.u64(), random.u64()),
+        1 => (random.below(200) as u64, random.below(MOST) as u64),
+        2 => (random.pick(accepted).0, random.u64()),
+        3 => (border_size(random), border_length(random)),
+        4 => (border_size(random), random.pick(&CODED_LENGTHS)),
+        5..7 => (random.pick(accepted).0, border_length(random)),
+        7 => (random.between(80, 140) as u64, 108),
+        // The reference takes long for the longer ones.
+        8..11 => random.pick(&accepted[..SHORT]),
+        _ => random.pick(accepted),
+    }
+}
+
+/// Mostly the length that is asked for, as far as its low bits say it; else one near it or any.
+fn length(asked: u64, random: &mut Random) -> usize {
+    let fits = usize::from(asked as u16).min(MOST);
+    match random.below(16) {
+        0 => random.below(MOST + 1),
+        1 => 0,
+        2 => fits.saturating_sub(1),
+        3 => fits + 1,
+        _ => fits,
+    }
+}
+
+/// Mostly bits; else any bytes, everywhere or at a place.
+fn payload(count: usize, random: &mut Random) -> Vec<u8> {
+    let mut payload = random.bits(count);
+    match random.below(6) {
+        0 => payload = random.bytes(count),
+        1 if count > 0 => payload[random.below(count)] = random.u64() as u8,
+        _ => {}
+    }
+    payload
+}
+
+/// A message in noise where the numbers are accepted and the length fits; else noise.
+fn soft_values(numbers: &Numbers, count: usize, random: &mut Random) -> Vec<i32> {
+    let Numbers { a, e, .. } = *numbers;
+    if count as u64 != e || reference::refused_sizes(a, e).is_some() || random.below(4) == 0 {
+        return (0..count).map(|_| random.between(-127, 127)).collect();
+    }
+    let coded = trials::coded(numbers, &random.bits(a as usize));
+    let strengths = rows::strengths(count, random);
+    let mut soft = reference::noiseless(&coded, &strengths);
+    for _ in 0..random.pick(&[0, 0, 1, count / 50, count / 10]) {
+        soft[random.below(count)] = random.between(-127, 127);
+    }
+    soft
+}
+
+/// Mostly values that the call takes; else any, everywhere or at a place.
+fn values(subject: &Subject, numbers: &Numbers, count: usize, random: &mut Random) -> Vec<i32> {
+    let any = |random: &mut Random| match random.below(2) {
+        0 => random.u64() as i32,
+        _ => random.between(-130, 130),
+    };
+    if random.below(8) == 0 {
+        return (0..count).map(|_| any(random)).collect();
+    }
+    let mut values = (subject.values)(numbers, count, random);
+    if count > 0 && random.below(5) == 0 {
+        values[random.below(count)] = any(random);
+    }
+    values
+}
+
+impl Input {
+    fn of(subject: &Subject, accepted: &[(u64, u64)], random: &mut Random) -> Self {
+        let (a, e) = sizes(random, accepted);
+        let numbers = random.numbers(a, e);
+        let asked = (subject.asks)(&numbers);
+        let payload_len = asked.payload.map_or(0, |asked| length(asked, random));
+        let values_len = asked.values.map_or(0, |asked| length(asked, random));
+        let out_len = length(asked.out, random);
+        Self {
+            numbers,
+            payload: payload(payload_len, random),
+            values: values(subject, &numbers, values_len, random),
+            out: random.bytes(out_len),
+        }
+    }
+
+    fn reference(&self, subject: &Subject) -> Outcome {
+        let mut out = self.out.clone();
+        let (number, place) =
+            (subject.reference)(&self.numbers, &self.payload, &self.values, &mut out);
+        Outcome { number, place, out }
+    }
+
+    /// What the library gives. Its buffers stand at any address, and nothing but the output may change.
+    fn library(&self, subject: &Subject, random: &mut Random) -> Outcome {
+        let payload = Room::of(&self.payload, GUARD, random);
+        let values = Room::of(&self.values, i32::from(GUARD), random);
+        let mut out = Room::of(&self.out, GUARD, random);
+        let result = (subject.library)(
+            &self.numbers,
+            payload.content(),
+            values.content(),
+            out.content_mut(),
+        );
+        let (number, place) = match result {
+            Ok(()) => (0, 0),
+            Err(refusal @ Refusal::BadEntry(place)) => (refusal.number(), place),
+            Err(refusal) => (refusal.number(), 0),
+        };
+        assert!(payload.guards_hold(), "written beside the payload");
+        assert!(values.guards_hold(), "written beside the values");
+        assert!(out.guards_hold(), "written beside the output");
+        assert_eq!(payload.content(), self.payload, "the payload is written");
+        assert_eq!(values.content(), self.values, "the values are written");
+        let out = out.content().to_vec();
+        Outcome { number, place, out }
+    }
+}
+
+/// A buffer at any address that its entries may have. In half of all cases it is the end of an
+/// allocation, in the others guards stand behind it; before it there are up to 16.
+struct Room<T> {
+    whole: Box<[T]>,
+    at: Range<usize>,
+    guard: T,
+}
+
+impl<T: Copy + PartialEq> Room<T> {
+    fn of(content: &[T], guard: T, random: &mut Random) -> Self {
+        let (before, behind) = (random.below(17), random.pick(&[0, 64]));
+        let mut whole = Vec::with_capacity(before + content.len() + behind);
+        whole.resize(before, guard);
+        whole.extend_from_slice(content);
+        whole.resize(whole.len() + behind, guard);
+        Self {
+            whole: whole.into_boxed_slice(),
+            at: before..before + content.len(),
+            guard,
+        }
+    }
+
+    fn content(&self) -> &[T] {
+        &self.whole[self.at.clone()]
+    }
+
+    fn content_mut(&mut self) -> &mut [T] {
+        &mut self.whole[self.at.clone()]
+    }
+
+    fn guards_hold(&self) -> bool {
+        let (before, behind) = (&self.whole[..self.at.start], &self.whole[self.at.end..]);
+        before
+            .iter()
+            .chain(behind)
+            .all(|entry| *entry == self.guard)
+    }
+}
+
+/// Puts the calls of a seed to both programs, each subject in its turn.
+fn chunk(seed: u64, accepted: &[(u64, u64)]) -> Tally {
+    let mut random = Random::new(seed);
+    let mut tally = Tally::default();
+    for call in 0..CHUNK {
+        let turn = call as usize % SUBJECTS.len();
+        let subject = &SUBJECTS[turn];
+        let input = Input::of(subject, accepted, &mut random);
+        let outcome = input.library(subject, &mut random);
+        assert_eq!(
+            outcome,
+            input.reference(subject),
+            "seed {seed}, call {call}, {} of {input:?}",
+            subject.name
+        );
+        tally[turn][usize::from(outcome.number)] += 1;
+    }
+    tally
+}
+
+/// Every number that a call can give must be given often, and 0 more often still.
+fn assert_not_trivial(subject: &Subject, given: &[u64; 8]) {
+    let calls: u64 = given.iter().sum();
+    for number in 0..8u8 {
+        let count = given[usize::from(number)];
+        match (subject.given.contains(&number), number) {
+            (true, 0) => assert!(count >= calls / 15, "{}: {given:?}", subject.name),
+            (true, _) => assert!(count >= calls / 30, "{}: {given:?}", subject.name),
+            (false, _) => assert_eq!(count, 0, "{}: {given:?}", subject.name),
+        }
+    }
+}
+
+#[test]
+fn random_bytes_are_answered_as_the_reference_does() {
+    let seed = setting("SEED", 1);
+    let chunks = setting("CALLS", 1_000_000).div_ceil(CHUNK);
+    let accepted = accepted_pairs();
+    let next = AtomicU64::new(0);
+    let work = || {
+        let mut tally = Tally::default();
+        loop {
+            let taken = next.fetch_add(1, Ordering::Relaxed);
+            if taken >= chunks {
+                return tally;
+            }
+            // Seeds of runs with another SEED are others.
+            add(&mut tally, chunk(seed << 32 | taken, &accepted));
+        }
+    };
+    let tallies = thread::scope(|scope| {
+        let threads = [scope.spawn(work), scope.spawn(work)];
+        threads.map(|thread| thread.join().expect("answers as expected"))
+    });
+    let mut tally = Tally::default();
+    tallies
+        .into_iter()
+        .for_each(|of_thread| add(&mut tally, of_thread));
+    for (subject, given) in SUBJECTS.iter().zip(&tally) {
+        println!("{:8} gave 0 to 7: {given:?}", subject.name);
+    }
+    let calls: u64 = tally.iter().flatten().sum();
+    println!("{calls} calls, all answered as the reference answers them");
+    assert_eq!(calls, chunks * CHUNK);
+    for (subject, given) in SUBJECTS.iter().zip(&tally) {
+        assert_not_trivial(subject, given);
+    }
+}
+
+fn add(tally: &mut Tally, other: Tally) {
+    for (count, more) in tally.iter_mut().flatten().zip(other.iter().flatten()) {
+        *count += more;
+    }
+}
