@@ -1,5 +1,6 @@
 //! What the comparisons share: calls that are put to both programs, and rows of soft values.
 
+pub mod built;
 pub mod calls;
 pub mod faults;
 pub mod rows;

@@ -1,23 +1,13 @@
 //! The header, as C and C++ compilers read it, declares what the archive exports.
 
 use conformance::Random;
+use conformance::built::{archive, include, is_found, source};
 use conformance::rows::strengths;
-use std::env;
+use std::io::Write;
 use std::path::{Path, PathBuf};
-use std::process::Command;
+use std::process::{Command, Stdio};
 
 const SEED: u64 = 99;
-
-fn root() -> PathBuf {
-    Path::new(env!("CARGO_MANIFEST_DIR")).join("../..")
-}
-
-fn archive() -> PathBuf {
-    let directory = env::var_os("SPELTFEATHER_LIB_DIR").map(PathBuf::from);
-    directory
-        .unwrap_or_else(|| root().join("target/staticlib"))
-        .join("libspeltfeather.a")
-}
 
 /// Builds the caller with every warning an error.
 fn build(compiler: &str, language: &[&str], name: &str) -> PathBuf {
@@ -25,8 +15,8 @@ fn build(compiler: &str, language: &[&str], name: &str) -> PathBuf {
     let status = Command::new(compiler)
         .args(language)
         .args(["-Wall", "-Wextra", "-pedantic", "-Werror", "-I"])
-        .arg(root().join("include"))
-        .arg(root().join("rust/tests/c/call.c"))
+        .arg(include())
+        .arg(source("call.c"))
         .args(["-x", "none"])
         .arg(archive())
         .arg("-o")
@@ -182,4 +172,48 @@ fn c_gets_the_same_bits() {
 #[test]
 fn cpp_gets_the_same_bits() {
     assert_language("c++", &["-std=c++11", "-x", "c++"], "call_cpp");
+}
+
+/// The header alone and twice, and its macros.
+const LONE: &str = "\
+#include \"speltfeather.h\"
+#include \"speltfeather.h\"
+int number(uint64_t r);
+int number(uint64_t r) { return SPELT_NUMBER(r); }
+size_t place(uint64_t r);
+size_t place(uint64_t r) { return SPELT_PLACE(r); }
+";
+
+fn assert_taken(compiler: &str, language: &str, standard: &str) {
+    let mut child = Command::new(compiler)
+        .args(["-fsyntax-only", "-x", language, standard, "-pedantic"])
+        .args(["-Wall", "-Wextra", "-Wconversion", "-Wsign-conversion"])
+        .args(["-Wundef", "-Werror", "-I"])
+        .arg(include())
+        .arg("-")
+        .stdin(Stdio::piped())
+        .spawn()
+        .expect("a compiler");
+    let mut input = child.stdin.take().expect("a pipe");
+    input.write_all(LONE.as_bytes()).expect("a reader");
+    drop(input);
+    let status = child.wait().expect("an end");
+    assert!(status.success(), "{compiler} {standard} takes the header");
+}
+
+#[test]
+fn every_standard_takes_the_header() {
+    let c = ["-std=c99", "-std=c11", "-std=c17"];
+    let cpp = ["-std=c++11", "-std=c++14", "-std=c++17", "-std=c++20"];
+    for (language, standards, compilers) in [
+        ("c", &c[..], ["cc", "gcc", "clang"]),
+        ("c++", &cpp[..], ["c++", "g++", "clang++"]),
+    ] {
+        assert!(is_found(compilers[0]), "{}", compilers[0]);
+        for compiler in compilers.into_iter().filter(|name| is_found(name)) {
+            for standard in standards {
+                assert_taken(compiler, language, standard);
+            }
+        }
+    }
 }

@@ -23,13 +23,12 @@ const SHORT: usize = 73 + 129;
 /// What the entries around a buffer hold.
 const GUARD: u8 = 0x5A;
 
-/// What a call is handed. What it does not read is empty.
-#[derive(Clone, Debug)]
-struct Input {
+/// What a call reads. What it has no use for is empty.
+#[derive(Clone, Copy)]
+struct Inputs<'a> {
     numbers: Numbers,
-    payload: Vec<u8>,
-    values: Vec<i32>,
-    out: Vec<u8>,
+    payload: &'a [u8],
+    values: &'a [i32],
 }
 
 /// The lengths that a call asks for; none for what it does not read.
@@ -47,8 +46,8 @@ struct Subject {
     asks: fn(&Numbers) -> Asked,
     /// Values that it takes, as many as are wanted.
     values: fn(&Numbers, usize, &mut Random) -> Vec<i32>,
-    library: fn(&Numbers, &[u8], &[i32], &mut [u8]) -> Result<(), Refusal>,
-    reference: fn(&Numbers, &[u8], &[i32], &mut [u8]) -> (u8, usize),
+    library: fn(Inputs, &mut [u8]) -> Result<(), Refusal>,
+    reference: fn(Inputs, &mut [u8]) -> (u8, usize),
 }
 
 const SUBJECTS: [Subject; 3] = [
@@ -61,9 +60,10 @@ const SUBJECTS: [Subject; 3] = [
             out: numbers.e,
         },
         values: |_, _, _| vec![],
-        library: |numbers, payload, _, out| speltfeather::encode(numbers, payload, out),
-        reference: |&Numbers { a, e, rnti, n_id }, payload, _, out| {
-            reference::encode(a, e, rnti, n_id, payload, out)
+        library: |x, out| speltfeather::encode(&x.numbers, x.payload, out),
+        reference: |x, out| {
+            let Numbers { a, e, rnti, n_id } = x.numbers;
+            reference::encode(a, e, rnti, n_id, x.payload, out)
         },
     },
     Subject {
@@ -75,9 +75,10 @@ const SUBJECTS: [Subject; 3] = [
             out: numbers.a,
         },
         values: soft_values,
-        library: |numbers, _, soft, out| speltfeather::decode(numbers, soft, out),
-        reference: |&Numbers { a, e, rnti, n_id }, _, soft, out| {
-            reference::decode(a, e, rnti, n_id, soft, out)
+        library: |x, out| speltfeather::decode(&x.numbers, x.values, out),
+        reference: |x, out| {
+            let Numbers { a, e, rnti, n_id } = x.numbers;
+            reference::decode(a, e, rnti, n_id, x.values, out)
         },
     },
     Subject {
@@ -89,9 +90,10 @@ const SUBJECTS: [Subject; 3] = [
             out: numbers.a,
         },
         values: |_, count, random| rows::strengths(count, random),
-        library: speltfeather::loopback,
-        reference: |&Numbers { a, e, rnti, n_id }, payload, strengths, out| {
-            reference::loopback(a, e, rnti, n_id, payload, strengths, out)
+        library: |x, out| speltfeather::loopback(&x.numbers, x.payload, x.values, out),
+        reference: |x, out| {
+            let Numbers { a, e, rnti, n_id } = x.numbers;
+            reference::loopback(a, e, rnti, n_id, x.payload, x.values, out)
         },
     },
 ];
@@ -186,8 +188,17 @@ fn values(subject: &Subject, numbers: &Numbers, count: usize, random: &mut Rando
     values
 }
 
-impl Input {
-    fn of(subject: &Subject, accepted: &[(u64, u64)], random: &mut Random) -> Self {
+/// A call, with what the output buffer holds before it.
+#[derive(Debug)]
+struct Case {
+    numbers: Numbers,
+    payload: Vec<u8>,
+    values: Vec<i32>,
+    out: Vec<u8>,
+}
+
+impl Case {
+    fn random(subject: &Subject, accepted: &[(u64, u64)], random: &mut Random) -> Self {
         let (a, e) = sizes(random, accepted);
         let numbers = random.numbers(a, e);
         let asked = (subject.asks)(&numbers);
@@ -204,23 +215,27 @@ impl Input {
 
     fn reference(&self, subject: &Subject) -> Outcome {
         let mut out = self.out.clone();
-        let (number, place) =
-            (subject.reference)(&self.numbers, &self.payload, &self.values, &mut out);
+        let inputs = Inputs {
+            numbers: self.numbers,
+            payload: &self.payload,
+            values: &self.values,
+        };
+        let (number, place) = (subject.reference)(inputs, &mut out);
         Outcome { number, place, out }
     }
 
-    /// What the library gives. Its buffers stand at any address, and nothing but the output may change.
+    /// What the library gives. Its buffers stand at any address, and nothing but the output may
+    /// change.
     fn library(&self, subject: &Subject, random: &mut Random) -> Outcome {
         let payload = Room::of(&self.payload, GUARD, random);
         let values = Room::of(&self.values, i32::from(GUARD), random);
         let mut out = Room::of(&self.out, GUARD, random);
-        let result = (subject.library)(
-            &self.numbers,
-            payload.content(),
-            values.content(),
-            out.content_mut(),
-        );
-        let (number, place) = match result {
+        let inputs = Inputs {
+            numbers: self.numbers,
+            payload: payload.content(),
+            values: values.content(),
+        };
+        let (number, place) = match (subject.library)(inputs, out.content_mut()) {
             Ok(()) => (0, 0),
             Err(refusal @ Refusal::BadEntry(place)) => (refusal.number(), place),
             Err(refusal) => (refusal.number(), 0),
@@ -281,12 +296,12 @@ fn chunk(seed: u64, accepted: &[(u64, u64)]) -> Tally {
     for call in 0..CHUNK {
         let turn = call as usize % SUBJECTS.len();
         let subject = &SUBJECTS[turn];
-        let input = Input::of(subject, accepted, &mut random);
-        let outcome = input.library(subject, &mut random);
+        let case = Case::random(subject, accepted, &mut random);
+        let outcome = case.library(subject, &mut random);
         assert_eq!(
             outcome,
-            input.reference(subject),
-            "seed {seed}, call {call}, {} of {input:?}",
+            case.reference(subject),
+            "seed {seed}, call {call}, {} of {case:?}",
             subject.name
         );
         tally[turn][usize::from(outcome.number)] += 1;

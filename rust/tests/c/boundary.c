@@ -1,0 +1,641 @@
+/*
+ * boundary calls COUNT
+ * boundary stack
+ *
+ * Calls through the header alone, whose buffers have exactly the room that their
+ * lengths say: every refusal, every coded length, and COUNT random calls. Each
+ * is made four times, with its buffers
+ *
+ *   - allocated,
+ *   - allocated and at an odd address, where the entries are bytes,
+ *   - directly before a page that cannot be accessed,
+ *   - directly behind one,
+ *
+ * where in the last two the inputs cannot be written. The answer must be the one
+ * that the header says, and each time the same; inputs, what surrounds the
+ * output, and on a refusal the output must hold what they held.
+ *
+ * With `stack` the calls run in threads of 64 kB, and what they take of the stack
+ * must be about what the header says.
+ *
+ * Prints how many calls were made. At the first that is not as expected, says
+ * which it was and ends with 1.
+ */
+#define _DEFAULT_SOURCE
+
+#include <inttypes.h>
+#include <pthread.h>
+#include <stdio.h>
+#include <stdlib.h>
+#include <string.h>
+#include <sys/mman.h>
+#include <unistd.h>
+
+#include "speltfeather.h"
+
+enum { MOST = 2100, GUARD = 0x5A, STACK = 65536 };
+
+/* What a length must be. */
+enum length { NONE, SIZE_A, SIZE_E };
+
+struct call {
+    const struct kind *kind;
+    uint64_t a, e;
+    uint16_t rnti, n_id;
+    uint8_t payload[MOST];
+    int32_t values[MOST]; /* soft values or strengths */
+    uint8_t out[MOST];    /* what it holds before the call */
+    size_t payload_len, values_len, out_len;
+    int sure;             /* 0, or 1 if `payload` must be read, or 7 */
+};
+
+typedef uint64_t ask(const struct call *, const uint8_t *payload,
+                     const int32_t *values, uint8_t *out);
+
+struct kind {
+    const char *name;
+    ask *ask;
+    enum length payload, values, out;
+    int32_t least;      /* of the values; the greatest is 127 */
+    unsigned stack;     /* bytes, as the header says */
+    unsigned long given[8];
+};
+
+static uint64_t encode(const struct call *c, const uint8_t *payload,
+                       const int32_t *values, uint8_t *out)
+{
+    (void)values;
+    return spelt_encode(c->a, c->e, c->rnti, c->n_id, payload, c->payload_len,
+                        out, c->out_len);
+}
+
+static uint64_t decode(const struct call *c, const uint8_t *payload,
+                       const int32_t *values, uint8_t *out)
+{
+    (void)payload;
+    return spelt_decode(c->a, c->e, c->rnti, c->n_id, values, c->values_len,
+                        out, c->out_len);
+}
+
+static uint64_t loopback(const struct call *c, const uint8_t *payload,
+                         const int32_t *values, uint8_t *out)
+{
+    return spelt_loopback(c->a, c->e, c->rnti, c->n_id, payload, c->payload_len,
+                          values, c->values_len, out, c->out_len);
+}
+
+static struct kind kinds[] = {
+    {"encode", encode, SIZE_A, NONE, SIZE_E, 0, 5000, {0}},
+    {"decode", decode, NONE, SIZE_E, SIZE_A, -127, 17000, {0}},
+    {"loopback", loopback, SIZE_A, SIZE_E, SIZE_A, 1, 26000, {0}},
+};
+
+enum { KINDS = sizeof kinds / sizeof *kinds };
+
+static int can_give(const struct kind *kind, int number)
+{
+    int inputs = kind->payload != NONE || kind->values != NONE;
+    switch (number) {
+    case SPELT_INPUT_LENGTH:
+    case SPELT_BAD_ENTRY:
+        return inputs;
+    case SPELT_PARITY_MISMATCH:
+        return kind->ask == decode;
+    default:
+        return 1;
+    }
+}
+
+static const uint64_t lengths[] = {108, 216, 432, 864, 1728};
+
+enum { LENGTHS = sizeof lengths / sizeof *lengths };
+
+static const struct { uint64_t a, e; } pairs[] = {
+    {12, 108}, {40, 108}, {84, 108},  {12, 216},  {70, 216}, {71, 216}, {140, 216},
+    {12, 432}, {37, 432}, {140, 432}, {12, 864},  {84, 864}, {140, 864}, {12, 1728},
+    {84, 1728}, {140, 1728},
+};
+
+enum { PAIRS = sizeof pairs / sizeof *pairs };
+
+/* Sizes that narrower numbers, or sums that wrap around, would take for others. */
+static const uint64_t far[] = {
+    (uint64_t)1 << 8,  (uint64_t)1 << 16, (uint64_t)1 << 32, (uint64_t)1 << 63,
+    UINT64_MAX - 2047, UINT64_MAX - 23,
+};
+
+enum { FAR = sizeof far / sizeof *far };
+
+/* ---- random numbers: xorshift64* ---- */
+
+static uint64_t state = 0x9E3779B97F4A7C15u;
+
+static uint64_t any(void)
+{
+    state ^= state >> 12;
+    state ^= state << 25;
+    state ^= state >> 27;
+    return state * 0x2545F4914F6CDD1Du;
+}
+
+static size_t below(size_t bound)
+{
+    return (size_t)((any() >> 16) % bound);
+}
+
+/* ---- what is expected ---- */
+
+static void fail(const struct call *c, const char *how, const char *why, uint64_t r)
+{
+    fprintf(stderr,
+            "%s a=%" PRIu64 " e=%" PRIu64 " rnti=%u n_id=%u lengths %zu %zu %zu, %s: "
+            "%s; the answer is %d with place %zu\n",
+            c->kind->name, c->a, c->e, (unsigned)c->rnti, (unsigned)c->n_id,
+            c->payload_len, c->values_len, c->out_len, how, why, SPELT_NUMBER(r),
+            SPELT_PLACE(r));
+    exit(1);
+}
+
+static uint64_t asked(const struct call *c, enum length length)
+{
+    return length == SIZE_A ? c->a : length == SIZE_E ? c->e : 0;
+}
+
+/* The refusal that applies, 1 to 6 with its place; 0 if none does. */
+static uint64_t refusal(const struct call *c)
+{
+    int known = 0;
+    if (c->a < 12 || c->a > 140)
+        return SPELT_PAYLOAD_SIZE;
+    for (size_t i = 0; i < LENGTHS; i++)
+        known |= c->e == lengths[i];
+    if (!known)
+        return SPELT_CODED_LENGTH;
+    if (c->a + 24 > c->e)
+        return SPELT_TOO_MANY_BITS;
+    if (c->payload_len != asked(c, c->kind->payload) ||
+        c->values_len != asked(c, c->kind->values))
+        return SPELT_INPUT_LENGTH;
+    if (c->out_len != asked(c, c->kind->out))
+        return SPELT_OUTPUT_LENGTH;
+    for (size_t i = 0; i < c->payload_len; i++)
+        if (c->payload[i] > 1)
+            return SPELT_BAD_ENTRY + 256 * (uint64_t)i;
+    for (size_t i = 0; i < c->values_len; i++)
+        if (c->values[i] < c->kind->least || c->values[i] > 127)
+            return SPELT_BAD_ENTRY + 256 * (uint64_t)(c->payload_len + i);
+    return SPELT_DONE;
+}
+
+static int are_bits(const uint8_t *bytes, size_t count)
+{
+    for (size_t i = 0; i < count; i++)
+        if (bytes[i] > 1)
+            return 0;
+    return 1;
+}
+
+/* Why an answer is wrong; NULL if it is right. */
+static const char *fault(const struct call *c, uint64_t r, const uint8_t *out)
+{
+    uint64_t first = refusal(c);
+    if (first != 0 && r != first)
+        return "another refusal applies";
+    if (first == 0 && r != 0 &&
+        !(r == SPELT_PARITY_MISMATCH && can_give(c->kind, SPELT_PARITY_MISMATCH)))
+        return "no refusal applies";
+    if (first == 0 && c->sure == 7 && r != 7)
+        return "the parity cannot match";
+    if (first == 0 && c->sure == 1 &&
+        (r != 0 || memcmp(out, c->payload, c->out_len) != 0))
+        return "it must give the payload";
+    if (r != 0 && memcmp(out, c->out, c->out_len) != 0)
+        return "the output is written";
+    if (r == 0 && !are_bits(out, c->out_len))
+        return "the output is not of bits";
+    return NULL;
+}
+
+/* ---- buffers with exactly the room that they need ---- */
+
+enum how { ALLOCATED, SHIFTED, BEFORE_PAGE, BEHIND_PAGE, HOWS };
+
+static const char *const how_names[] = {"allocated", "allocated at an odd address",
+                                        "before a page", "behind a page"};
+
+struct room {
+    uint8_t *pages; /* between two that cannot be accessed */
+    uint8_t *block; /* what was allocated, or NULL */
+    uint8_t *start;
+    size_t size;
+};
+
+static size_t page, room_size;
+static struct room payload_room, values_room, out_room;
+
+static void need(int done, const char *what)
+{
+    if (!done) {
+        perror(what);
+        exit(2);
+    }
+}
+
+static uint8_t *mapped(size_t size)
+{
+    void *map = mmap(NULL, size, PROT_NONE, MAP_PRIVATE | MAP_ANONYMOUS, -1, 0);
+    need(map != MAP_FAILED, "mmap");
+    return (uint8_t *)map;
+}
+
+static void protect(uint8_t *start, size_t size, int access)
+{
+    need(mprotect(start, size, access) == 0, "mprotect");
+}
+
+static void make_rooms(void)
+{
+    page = (size_t)sysconf(_SC_PAGESIZE);
+    room_size = (MOST * sizeof(int32_t) / page + 1) * page;
+    payload_room.pages = mapped(room_size + 2 * page) + page;
+    values_room.pages = mapped(room_size + 2 * page) + page;
+    out_room.pages = mapped(room_size + 2 * page) + page;
+}
+
+static uint8_t *put(struct room *room, enum how how, const void *content,
+                    size_t count, size_t entry)
+{
+    room->size = count * entry;
+    room->block = NULL;
+    if (how == ALLOCATED || how == SHIFTED) {
+        size_t shift = how == SHIFTED ? entry : 0;
+        room->block = (uint8_t *)malloc(shift + room->size);
+        need(room->block != NULL, "malloc");
+        room->start = room->block + shift;
+    } else {
+        protect(room->pages, room_size, PROT_READ | PROT_WRITE);
+        memset(room->pages, GUARD, room_size);
+        room->start = room->pages;
+        if (how == BEFORE_PAGE)
+            room->start += room_size - room->size;
+    }
+    memcpy(room->start, content, room->size);
+    return room->start;
+}
+
+static void make_read_only(const struct room *room)
+{
+    if (room->block == NULL)
+        protect(room->pages, room_size, PROT_READ);
+}
+
+/* Whether what surrounds the buffer holds what it held. */
+static int surrounded(const struct room *room)
+{
+    if (room->block != NULL)
+        return 1;
+    const uint8_t *end = room->start + room->size;
+    for (const uint8_t *at = room->pages; at < room->pages + room_size; at++)
+        if ((at < room->start || at >= end) && *at != GUARD)
+            return 0;
+    return 1;
+}
+
+/* ---- calls ---- */
+
+static unsigned long calls;
+
+static uint64_t put_to_library(const struct call *c, enum how how, uint8_t *out)
+{
+    uint8_t *payload = put(&payload_room, how, c->payload, c->payload_len, 1);
+    uint8_t *values =
+        put(&values_room, how, c->values, c->values_len, sizeof *c->values);
+    uint8_t *result = put(&out_room, how, c->out, c->out_len, 1);
+    make_read_only(&payload_room);
+    make_read_only(&values_room);
+
+    uint64_t r = c->kind->ask(c, payload, (const int32_t *)(void *)values, result);
+
+    calls++;
+    memcpy(out, result, c->out_len);
+    if (memcmp(payload, c->payload, c->payload_len) != 0 ||
+        memcmp(values, c->values, c->values_len * sizeof *c->values) != 0)
+        fail(c, how_names[how], "an input is written", r);
+    if (!surrounded(&out_room))
+        fail(c, how_names[how], "something beside the output is written", r);
+    free(payload_room.block);
+    free(values_room.block);
+    free(out_room.block);
+    return r;
+}
+
+/* Puts a call in every way, and gives its number. */
+static int number_of(const struct call *c)
+{
+    static uint8_t first_out[MOST], out[MOST];
+    uint64_t first = put_to_library(c, ALLOCATED, first_out);
+    const char *why = fault(c, first, first_out);
+    if (why != NULL)
+        fail(c, how_names[ALLOCATED], why, first);
+    for (int how = SHIFTED; how < HOWS; how++) {
+        uint64_t r = put_to_library(c, (enum how)how, out);
+        if (r != first || memcmp(out, first_out, c->out_len) != 0)
+            fail(c, how_names[how], "another answer than elsewhere", r);
+    }
+    return SPELT_NUMBER(first);
+}
+
+static void make(struct call *c)
+{
+    int number = number_of(c);
+    for (size_t i = 0; i < KINDS; i++)
+        if (c->kind == &kinds[i])
+            kinds[i].given[number]++;
+}
+
+static size_t fitting(const struct call *c, enum length length)
+{
+    size_t low = (size_t)(asked(c, length) & 0xFFFF);
+    return low < MOST ? low : MOST;
+}
+
+/* Random contents that are taken, for lengths that fit the low bits of the sizes. */
+static void fill(struct call *c, const struct kind *kind, uint64_t a, uint64_t e)
+{
+    c->kind = kind;
+    c->a = a;
+    c->e = e;
+    c->rnti = (uint16_t)any();
+    c->n_id = (uint16_t)any();
+    c->payload_len = fitting(c, kind->payload);
+    c->values_len = fitting(c, kind->values);
+    c->out_len = fitting(c, kind->out);
+    c->sure = kind->ask == loopback;
+    for (size_t i = 0; i < MOST; i++) {
+        uint64_t bits = any();
+        c->payload[i] = bits & 1;
+        c->values[i] = kind->least + (int32_t)((bits >> 8) % (uint64_t)(128 - kind->least));
+        c->out[i] = (uint8_t)(bits >> 1);
+    }
+}
+
+/* Makes the soft values those of a message, of uneven strengths; the numbers are accepted. */
+static void send(struct call *c)
+{
+    static uint8_t coded[MOST];
+    uint64_t r = spelt_encode(c->a, c->e, c->rnti, c->n_id, c->payload,
+                              (size_t)c->a, coded, (size_t)c->e);
+    if (r != 0)
+        fail(c, "coding of a message", "no refusal applies", r);
+    for (size_t i = 0; i < c->values_len; i++) {
+        int32_t strength = 1 + (int32_t)below(127);
+        c->values[i] = coded[i] == 0 ? strength : -strength;
+    }
+    c->sure = 1;
+}
+
+static void accepted(struct call *c, const struct kind *kind)
+{
+    for (size_t i = 0; i < PAIRS; i++) {
+        fill(c, kind, pairs[i].a, pairs[i].e);
+        make(c);
+        if (kind->ask == decode) {
+            send(c);
+            make(c);
+            c->rnti ^= (uint16_t)(1 << below(16));
+            c->sure = 7;
+            make(c);
+        }
+    }
+}
+
+static void sizes_of(struct call *c, const struct kind *kind, uint64_t a, uint64_t e)
+{
+    fill(c, kind, a, e);
+    make(c);
+    c->payload_len = c->values_len = c->out_len = 0;
+    make(c);
+}
+
+static void sizes(struct call *c, const struct kind *kind)
+{
+    static const uint64_t outside[] = {0, 1, 11, 141, 255, UINT64_MAX};
+    for (size_t i = 0; i < LENGTHS; i++) {
+        uint64_t e = lengths[i];
+        for (size_t k = 0; k < sizeof outside / sizeof *outside; k++)
+            sizes_of(c, kind, outside[k], e);
+        for (size_t k = 0; k < FAR; k++) {
+            sizes_of(c, kind, far[k] + 12, e);
+            sizes_of(c, kind, far[k] + 84, e);
+            sizes_of(c, kind, 12, far[k] + e);
+            sizes_of(c, kind, 84, far[k] + e);
+            sizes_of(c, kind, far[k] + 40, far[k] + e);
+        }
+        sizes_of(c, kind, 12, e - 1);
+        sizes_of(c, kind, 12, e + 1);
+    }
+    sizes_of(c, kind, 12, 0);
+    sizes_of(c, kind, UINT64_MAX, UINT64_MAX);
+    sizes_of(c, kind, 12, UINT64_MAX);
+    for (uint64_t a = 83; a <= 140; a++)
+        sizes_of(c, kind, a, 108);
+}
+
+static void wrong_length(struct call *c, size_t *length)
+{
+    size_t fits = *length, wrong[] = {0, 1, fits - 1, fits + 1, MOST};
+    for (size_t i = 0; i < sizeof wrong / sizeof *wrong; i++) {
+        *length = wrong[i];
+        make(c);
+    }
+    *length = fits;
+}
+
+static void wrong_lengths(struct call *c, const struct kind *kind)
+{
+    for (size_t i = 0; i < PAIRS; i++) {
+        fill(c, kind, pairs[i].a, pairs[i].e);
+        if (kind->payload != NONE)
+            wrong_length(c, &c->payload_len);
+        if (kind->values != NONE)
+            wrong_length(c, &c->values_len);
+        wrong_length(c, &c->out_len);
+    }
+}
+
+static void bad_entries(struct call *c, const struct kind *kind)
+{
+    const int32_t bad[] = {kind->least - 1, 128, INT32_MIN, INT32_MAX};
+    for (size_t i = 0; i < PAIRS; i++) {
+        fill(c, kind, pairs[i].a, pairs[i].e);
+        size_t payload_places[] = {0, 1, c->payload_len - 1};
+        size_t values_places[] = {0, 1, c->values_len - 1};
+        for (size_t k = 0; k < 3 && kind->payload != NONE; k++) {
+            uint8_t *entry = &c->payload[payload_places[k]], old = *entry;
+            *entry = (uint8_t)(2 + below(254));
+            make(c);
+            *entry = old;
+        }
+        for (size_t k = 0; k < 3 && kind->values != NONE; k++) {
+            int32_t *entry = &c->values[values_places[k]], old = *entry;
+            for (size_t b = 0; b < sizeof bad / sizeof *bad; b++) {
+                *entry = bad[b];
+                make(c);
+            }
+            *entry = old;
+        }
+    }
+}
+
+static size_t random_length(size_t fits)
+{
+    switch (below(12)) {
+    case 0:
+        return below(MOST + 1);
+    case 1:
+        return fits < MOST ? fits + 1 : 0;
+    case 2:
+        return fits > 0 ? fits - 1 : 1;
+    default:
+        return fits;
+    }
+}
+
+static void random_call(struct call *c, const struct kind *kind)
+{
+    size_t pair = below(PAIRS);
+    uint64_t a = pairs[pair].a, e = pairs[pair].e;
+    switch (below(8)) {
+    case 0:
+        a = any();
+        break;
+    case 1:
+        e = any();
+        break;
+    case 2:
+        a = far[below(FAR)] + below(256);
+        break;
+    case 3:
+        a = below(160);
+        e = lengths[below(LENGTHS)];
+        break;
+    case 4:
+        a = 80 + below(61);
+        e = 108;
+        break;
+    default:
+        break;
+    }
+    fill(c, kind, a, e);
+    if (kind->ask == decode && refusal(c) == 0 && below(2) == 0)
+        send(c);
+    c->payload_len = kind->payload != NONE ? random_length(c->payload_len) : 0;
+    c->values_len = kind->values != NONE ? random_length(c->values_len) : 0;
+    c->out_len = random_length(c->out_len);
+    if (c->payload_len > 0 && below(6) == 0)
+        c->payload[below(c->payload_len)] = (uint8_t)any();
+    if (c->values_len > 0 && below(6) == 0) {
+        c->values[below(c->values_len)] = (int32_t)(any() >> 33) - 0x3FFFFFFF;
+        c->sure = kind->ask == loopback;
+    }
+    make(c);
+}
+
+static int run_calls(unsigned long count)
+{
+    static struct call c;
+    for (size_t i = 0; i < KINDS; i++) {
+        accepted(&c, &kinds[i]);
+        sizes(&c, &kinds[i]);
+        wrong_lengths(&c, &kinds[i]);
+        bad_entries(&c, &kinds[i]);
+    }
+    for (unsigned long i = 0; i < count; i++)
+        random_call(&c, &kinds[i % KINDS]);
+    for (size_t i = 0; i < KINDS; i++)
+        for (int number = 0; number < 8; number++)
+            if ((kinds[i].given[number] >= 10) != can_give(&kinds[i], number)) {
+                fprintf(stderr, "%s gave %d %lu times\n", kinds[i].name, number,
+                        kinds[i].given[number]);
+                return 1;
+            }
+    printf("%lu calls, all as expected\n", calls);
+    return 0;
+}
+
+/* ---- the stack ---- */
+
+struct job {
+    const struct call *call;
+    uint8_t *out;
+    uintptr_t from; /* where the stack stood before the call */
+    uint64_t r;
+};
+
+static void *work(void *argument)
+{
+    struct job *job = (struct job *)argument;
+    const struct call *c = job->call;
+    volatile uint8_t here = 0;
+    job->from = (uintptr_t)&here;
+    job->r = c->kind->ask(c, c->payload, c->values, job->out);
+    return NULL;
+}
+
+/* What a call takes of the stack of its own thread. */
+static size_t stack_of(const struct call *c, uint8_t *stack)
+{
+    static uint8_t out[MOST];
+    struct job job = {c, out, 0, 0};
+    pthread_t thread;
+    pthread_attr_t attributes;
+    size_t untouched = 0;
+
+    memset(stack, GUARD, STACK);
+    memcpy(out, c->out, c->out_len);
+    need(pthread_attr_init(&attributes) == 0, "pthread_attr_init");
+    need(pthread_attr_setstack(&attributes, stack, STACK) == 0, "pthread_attr_setstack");
+    need(pthread_create(&thread, &attributes, work, &job) == 0, "pthread_create");
+    need(pthread_join(thread, NULL) == 0, "pthread_join");
+    need(pthread_attr_destroy(&attributes) == 0, "pthread_attr_destroy");
+    calls++;
+    const char *why = fault(c, job.r, out);
+    if (why != NULL)
+        fail(c, "in a thread of 64 kB", why, job.r);
+    while (untouched < STACK && stack[untouched] == GUARD)
+        untouched++;
+    return (size_t)(job.from - (uintptr_t)(stack + untouched));
+}
+
+static int run_stack(void)
+{
+    static struct call c;
+    uint8_t *stack = mapped(page + STACK) + page;
+    protect(stack, STACK, PROT_READ | PROT_WRITE);
+    for (size_t i = 0; i < KINDS; i++) {
+        size_t most = 0, said = kinds[i].stack;
+        for (size_t k = 0; k < PAIRS; k++) {
+            fill(&c, &kinds[i], pairs[k].a, pairs[k].e);
+            number_of(&c); /* so that memcpy and memset are linked */
+            size_t taken = stack_of(&c, stack);
+            most = taken > most ? taken : most;
+        }
+        printf("%s takes %zu bytes of the stack\n", kinds[i].name, most);
+        if (most > said * 6 / 5 || most < said * 4 / 5) {
+            fprintf(stderr, "the header says %zu\n", said);
+            return 1;
+        }
+    }
+    printf("%lu calls, all as expected\n", calls);
+    return 0;
+}
+
+int main(int argc, char **argv)
+{
+    make_rooms();
+    if (argc == 3 && strcmp(argv[1], "calls") == 0)
+        return run_calls(strtoul(argv[2], NULL, 10));
+    if (argc == 2 && strcmp(argv[1], "stack") == 0)
+        return run_stack();
+    return 2;
+}

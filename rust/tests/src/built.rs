@@ -1,0 +1,37 @@
+//! What programs in C are built from.
+
+use std::env;
+use std::path::{Path, PathBuf};
+use std::process::{Command, Stdio};
+
+fn root() -> PathBuf {
+    Path::new(env!("CARGO_MANIFEST_DIR")).join("../..")
+}
+
+/// The directory of the header.
+pub fn include() -> PathBuf {
+    root().join("include")
+}
+
+/// A program of these tests.
+pub fn source(name: &str) -> PathBuf {
+    root().join("rust/tests/c").join(name)
+}
+
+pub fn archive() -> PathBuf {
+    let directory = env::var_os("SPELTFEATHER_LIB_DIR").map(PathBuf::from);
+    directory
+        .unwrap_or_else(|| root().join("target/staticlib"))
+        .join("libspeltfeather.a")
+}
+
+/// Whether a program is installed, a compiler or another that says its version.
+pub fn is_found(program: &str) -> bool {
+    let silent = || Stdio::null();
+    Command::new(program)
+        .arg("--version")
+        .stdout(silent())
+        .stderr(silent())
+        .status()
+        .is_ok_and(|status| status.success())
+}

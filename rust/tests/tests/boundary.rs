@@ -1,0 +1,81 @@
+//! The boundary, from C: buffers with exactly the room that they need, beside pages that cannot be
+//! accessed, with the sanitizers and with valgrind; and what the calls take of the stack.
+//!
+//! The sanitizers watch what the program and memcpy and memset do, valgrind and the pages what the
+//! archive does as well.
+
+use conformance::built::{archive, include, is_found, source};
+use std::io::Write;
+use std::path::{Path, PathBuf};
+use std::process::Command;
+
+/// Builds the program with every warning an error.
+fn build(name: &str, flags: &[&str]) -> PathBuf {
+    let program = Path::new(env!("CARGO_TARGET_TMPDIR")).join(name);
+    let status = Command::new("cc")
+        .args(["-std=c99", "-O1", "-g", "-pthread"])
+        .args(["-Wall", "-Wextra", "-Wconversion", "-pedantic", "-Werror"])
+        .args(flags)
+        .arg("-I")
+        .arg(include())
+        .arg(source("boundary.c"))
+        .arg(archive())
+        .arg("-o")
+        .arg(&program)
+        .status()
+        .expect("a compiler");
+    assert!(status.success(), "cc builds it with {flags:?}");
+    program
+}
+
+/// Runs the program; it must say that all its calls went as expected. Gives how many they were.
+fn calls_of(command: &mut Command) -> usize {
+    let output = command.output().expect("the program runs");
+    let said = String::from_utf8(output.stdout).expect("text");
+    let wrong = String::from_utf8_lossy(&output.stderr);
+    println!("{command:?}\n{said}");
+    assert!(output.status.success(), "{}: {wrong}", output.status);
+    let last = said.lines().last().unwrap_or_default();
+    let calls = last.strip_suffix(" calls, all as expected");
+    let calls = calls.unwrap_or_else(|| panic!("{last}: {wrong}"));
+    calls.parse().expect("a number")
+}
+
+/// Makes the calls that are fixed and so many random ones, each with its buffers at four places.
+fn assert_calls(command: &mut Command, random: usize) {
+    command.arg("calls").arg(random.to_string());
+    assert!(calls_of(command) >= 10_000 + 4 * random);
+}
+
+#[test]
+fn pages_without_access() {
+    let program = build("boundary_plain", &[]);
+    assert_calls(&mut Command::new(program), 20_000);
+}
+
+#[test]
+fn sanitizers() {
+    let flags = ["-fsanitize=address,undefined", "-fno-sanitize-recover=all"];
+    let program = build("boundary_sanitized", &flags);
+    assert_calls(&mut Command::new(program), 10_000);
+}
+
+#[test]
+fn valgrind() {
+    if !is_found("valgrind") {
+        // Not through println, which is shown only for tests that fail.
+        let mut shown = std::io::stderr();
+        writeln!(shown, "\nSKIPPED: valgrind is not installed\n").expect("a place to say so");
+        return;
+    }
+    let program = build("boundary_valgrind", &[]);
+    let mut command = Command::new("valgrind");
+    command.args(["--quiet", "--error-exitcode=9", "--leak-check=full"]);
+    assert_calls(command.arg(program), 500);
+}
+
+#[test]
+fn stack() {
+    let program = build("boundary_stack", &[]);
+    assert!(calls_of(Command::new(program).arg("stack")) >= 200);
+}
