@@ -2,21 +2,21 @@
  * boundary calls COUNT
  * boundary stack
  *
- * Calls through the header alone, whose buffers have exactly the room that their
- * lengths say: every refusal, every coded length, and COUNT random calls. Each
- * is made four times, with its buffers
+ * Calls through the header alone, whose buffers have exactly the room that
+ * their lengths say: every refusal, every coded length, and COUNT random calls.
+ * Each is made four times, with its buffers
  *
  *   - allocated,
  *   - allocated and at an odd address, where the entries are bytes,
  *   - directly before a page that cannot be accessed,
  *   - directly behind one,
  *
- * where in the last two the inputs cannot be written. The answer must be the one
- * that the header says, and each time the same; inputs, what surrounds the
+ * where in the last two the inputs cannot be written. The answer must be the
+ * one that the header says, and each time the same; inputs, what surrounds the
  * output, and on a refusal the output must hold what they held.
  *
- * With `stack` the calls run in threads of 64 kB, and what they take of the stack
- * must be about what the header says.
+ * With `stack` the calls run in threads of 64 kB, and what they take of the
+ * stack must be about what the header says.
  *
  * Prints how many calls were made. At the first that is not as expected, says
  * which it was and ends with 1.
@@ -25,6 +25,7 @@
 
 #include <inttypes.h>
 #include <pthread.h>
+#include <signal.h>
 #include <stdio.h>
 #include <stdlib.h>
 #include <string.h>
@@ -38,6 +39,9 @@ enum { MOST = 2100, GUARD = 0x5A, STACK = 65536 };
 /* What a length must be. */
 enum length { NONE, SIZE_A, SIZE_E };
 
+/* What is known of a call that is not refused. */
+enum known { NOTHING, GIVES_PAYLOAD, GIVES_MISMATCH };
+
 struct call {
     const struct kind *kind;
     uint64_t a, e;
@@ -46,7 +50,7 @@ struct call {
     int32_t values[MOST]; /* soft values or strengths */
     uint8_t out[MOST];    /* what it holds before the call */
     size_t payload_len, values_len, out_len;
-    int sure;             /* 0, or 1 if `payload` must be read, or 7 */
+    enum known known;
 };
 
 typedef uint64_t ask(const struct call *, const uint8_t *payload,
@@ -56,8 +60,8 @@ struct kind {
     const char *name;
     ask *ask;
     enum length payload, values, out;
-    int32_t least;      /* of the values; the greatest is 127 */
-    unsigned stack;     /* bytes, as the header says */
+    int32_t least;  /* of the values; the greatest is 127 */
+    unsigned stack; /* bytes, as the header says */
     unsigned long given[8];
 };
 
@@ -110,18 +114,20 @@ static const uint64_t lengths[] = {108, 216, 432, 864, 1728};
 
 enum { LENGTHS = sizeof lengths / sizeof *lengths };
 
-static const struct { uint64_t a, e; } pairs[] = {
-    {12, 108}, {40, 108}, {84, 108},  {12, 216},  {70, 216}, {71, 216}, {140, 216},
-    {12, 432}, {37, 432}, {140, 432}, {12, 864},  {84, 864}, {140, 864}, {12, 1728},
-    {84, 1728}, {140, 1728},
+static const struct {
+    uint64_t a, e;
+} pairs[] = {
+    {12, 108},  {40, 108},  {84, 108},  {12, 216},   {70, 216}, {71, 216},
+    {140, 216}, {12, 432},  {37, 432},  {140, 432},  {12, 864}, {84, 864},
+    {140, 864}, {12, 1728}, {84, 1728}, {140, 1728},
 };
 
 enum { PAIRS = sizeof pairs / sizeof *pairs };
 
-/* Sizes that narrower numbers, or sums that wrap around, would take for others. */
+/* Sizes that narrower numbers or sums that wrap would take for others. */
 static const uint64_t far[] = {
-    (uint64_t)1 << 8,  (uint64_t)1 << 16, (uint64_t)1 << 32, (uint64_t)1 << 63,
-    UINT64_MAX - 2047, UINT64_MAX - 23,
+    (uint64_t)1 << 8,  (uint64_t)1 << 16, (uint64_t)1 << 32,
+    (uint64_t)1 << 63, UINT64_MAX - 2047, UINT64_MAX - 23,
 };
 
 enum { FAR = sizeof far / sizeof *far };
@@ -145,13 +151,20 @@ static size_t below(size_t bound)
 
 /* ---- what is expected ---- */
 
-static void fail(const struct call *c, const char *how, const char *why, uint64_t r)
+static void say(const struct call *c, const char *where, const char *why)
 {
     fprintf(stderr,
-            "%s a=%" PRIu64 " e=%" PRIu64 " rnti=%u n_id=%u lengths %zu %zu %zu, %s: "
-            "%s; the answer is %d with place %zu\n",
+            "%s a=%" PRIu64 " e=%" PRIu64
+            " rnti=%u n_id=%u lengths %zu %zu %zu, %s: %s\n",
             c->kind->name, c->a, c->e, (unsigned)c->rnti, (unsigned)c->n_id,
-            c->payload_len, c->values_len, c->out_len, how, why, SPELT_NUMBER(r),
+            c->payload_len, c->values_len, c->out_len, where, why);
+}
+
+static void fail(const struct call *c, const char *where, const char *why,
+                 uint64_t r)
+{
+    say(c, where, why);
+    fprintf(stderr, "the answer is %d with place %zu\n", SPELT_NUMBER(r),
             SPELT_PLACE(r));
     exit(1);
 }
@@ -164,12 +177,12 @@ static uint64_t asked(const struct call *c, enum length length)
 /* The refusal that applies, 1 to 6 with its place; 0 if none does. */
 static uint64_t refusal(const struct call *c)
 {
-    int known = 0;
+    int listed = 0;
     if (c->a < 12 || c->a > 140)
         return SPELT_PAYLOAD_SIZE;
     for (size_t i = 0; i < LENGTHS; i++)
-        known |= c->e == lengths[i];
-    if (!known)
+        listed |= c->e == lengths[i];
+    if (!listed)
         return SPELT_CODED_LENGTH;
     if (c->a + 24 > c->e)
         return SPELT_TOO_MANY_BITS;
@@ -202,11 +215,12 @@ static const char *fault(const struct call *c, uint64_t r, const uint8_t *out)
     if (first != 0 && r != first)
         return "another refusal applies";
     if (first == 0 && r != 0 &&
-        !(r == SPELT_PARITY_MISMATCH && can_give(c->kind, SPELT_PARITY_MISMATCH)))
+        !(r == SPELT_PARITY_MISMATCH &&
+          can_give(c->kind, SPELT_PARITY_MISMATCH)))
         return "no refusal applies";
-    if (first == 0 && c->sure == 7 && r != 7)
+    if (first == 0 && c->known == GIVES_MISMATCH && r != SPELT_PARITY_MISMATCH)
         return "the parity cannot match";
-    if (first == 0 && c->sure == 1 &&
+    if (first == 0 && c->known == GIVES_PAYLOAD &&
         (r != 0 || memcmp(out, c->payload, c->out_len) != 0))
         return "it must give the payload";
     if (r != 0 && memcmp(out, c->out, c->out_len) != 0)
@@ -220,7 +234,8 @@ static const char *fault(const struct call *c, uint64_t r, const uint8_t *out)
 
 enum how { ALLOCATED, SHIFTED, BEFORE_PAGE, BEHIND_PAGE, HOWS };
 
-static const char *const how_names[] = {"allocated", "allocated at an odd address",
+static const char *const how_names[] = {"allocated",
+                                        "allocated at an odd address",
                                         "before a page", "behind a page"};
 
 struct room {
@@ -305,6 +320,17 @@ static int surrounded(const struct room *room)
 
 static unsigned long calls;
 
+/* The call that is being made, for on_access. */
+static const struct call *running;
+static enum how running_how;
+
+static void on_access(int signal)
+{
+    (void)signal;
+    say(running, how_names[running_how], "it reads or writes what it must not");
+    _exit(1);
+}
+
 static uint64_t put_to_library(const struct call *c, enum how how, uint8_t *out)
 {
     uint8_t *payload = put(&payload_room, how, c->payload, c->payload_len, 1);
@@ -314,7 +340,10 @@ static uint64_t put_to_library(const struct call *c, enum how how, uint8_t *out)
     make_read_only(&payload_room);
     make_read_only(&values_room);
 
-    uint64_t r = c->kind->ask(c, payload, (const int32_t *)(void *)values, result);
+    running = c;
+    running_how = how;
+    uint64_t r =
+        c->kind->ask(c, payload, (const int32_t *)(void *)values, result);
 
     calls++;
     memcpy(out, result, c->out_len);
@@ -359,8 +388,9 @@ static size_t fitting(const struct call *c, enum length length)
     return low < MOST ? low : MOST;
 }
 
-/* Random contents that are taken, for lengths that fit the low bits of the sizes. */
-static void fill(struct call *c, const struct kind *kind, uint64_t a, uint64_t e)
+/* Random contents that are taken; lengths that fit the sizes' low bits. */
+static void fill(struct call *c, const struct kind *kind, uint64_t a,
+                 uint64_t e)
 {
     c->kind = kind;
     c->a = a;
@@ -370,16 +400,17 @@ static void fill(struct call *c, const struct kind *kind, uint64_t a, uint64_t e
     c->payload_len = fitting(c, kind->payload);
     c->values_len = fitting(c, kind->values);
     c->out_len = fitting(c, kind->out);
-    c->sure = kind->ask == loopback;
+    c->known = kind->ask == loopback ? GIVES_PAYLOAD : NOTHING;
     for (size_t i = 0; i < MOST; i++) {
         uint64_t bits = any();
         c->payload[i] = bits & 1;
-        c->values[i] = kind->least + (int32_t)((bits >> 8) % (uint64_t)(128 - kind->least));
+        c->values[i] = kind->least +
+                       (int32_t)((bits >> 8) % (uint64_t)(128 - kind->least));
         c->out[i] = (uint8_t)(bits >> 1);
     }
 }
 
-/* Makes the soft values those of a message, of uneven strengths; the numbers are accepted. */
+/* Makes the values a message of uneven strengths; the numbers are accepted. */
 static void send(struct call *c)
 {
     static uint8_t coded[MOST];
@@ -391,7 +422,7 @@ static void send(struct call *c)
         int32_t strength = 1 + (int32_t)below(127);
         c->values[i] = coded[i] == 0 ? strength : -strength;
     }
-    c->sure = 1;
+    c->known = GIVES_PAYLOAD;
 }
 
 static void accepted(struct call *c, const struct kind *kind)
@@ -403,13 +434,14 @@ static void accepted(struct call *c, const struct kind *kind)
             send(c);
             make(c);
             c->rnti ^= (uint16_t)(1 << below(16));
-            c->sure = 7;
+            c->known = GIVES_MISMATCH;
             make(c);
         }
     }
 }
 
-static void sizes_of(struct call *c, const struct kind *kind, uint64_t a, uint64_t e)
+static void sizes_of(struct call *c, const struct kind *kind, uint64_t a,
+                     uint64_t e)
 {
     fill(c, kind, a, e);
     make(c);
@@ -536,7 +568,7 @@ static void random_call(struct call *c, const struct kind *kind)
         c->payload[below(c->payload_len)] = (uint8_t)any();
     if (c->values_len > 0 && below(6) == 0) {
         c->values[below(c->values_len)] = (int32_t)(any() >> 33) - 0x3FFFFFFF;
-        c->sure = kind->ask == loopback;
+        c->known = kind->ask == loopback ? GIVES_PAYLOAD : NOTHING;
     }
     make(c);
 }
@@ -544,6 +576,7 @@ static void random_call(struct call *c, const struct kind *kind)
 static int run_calls(unsigned long count)
 {
     static struct call c;
+    signal(SIGSEGV, on_access);
     for (size_t i = 0; i < KINDS; i++) {
         accepted(&c, &kinds[i]);
         sizes(&c, &kinds[i]);
@@ -594,8 +627,10 @@ static size_t stack_of(const struct call *c, uint8_t *stack)
     memset(stack, GUARD, STACK);
     memcpy(out, c->out, c->out_len);
     need(pthread_attr_init(&attributes) == 0, "pthread_attr_init");
-    need(pthread_attr_setstack(&attributes, stack, STACK) == 0, "pthread_attr_setstack");
-    need(pthread_create(&thread, &attributes, work, &job) == 0, "pthread_create");
+    need(pthread_attr_setstack(&attributes, stack, STACK) == 0,
+         "pthread_attr_setstack");
+    need(pthread_create(&thread, &attributes, work, &job) == 0,
+         "pthread_create");
     need(pthread_join(thread, NULL) == 0, "pthread_join");
     need(pthread_attr_destroy(&attributes) == 0, "pthread_attr_destroy");
     calls++;

@@ -289,11 +289,26 @@ impl<T: Copy + PartialEq> Room<T> {
     }
 }
 
+/// Says which call it was, if the test fails in it.
+struct Running {
+    seed: u64,
+    call: u64,
+}
+
+impl Drop for Running {
+    fn drop(&mut self) {
+        if thread::panicking() {
+            eprintln!("at call {} of seed {}", self.call, self.seed);
+        }
+    }
+}
+
 /// Puts the calls of a seed to both programs, each subject in its turn.
 fn chunk(seed: u64, accepted: &[(u64, u64)]) -> Tally {
     let mut random = Random::new(seed);
     let mut tally = Tally::default();
     for call in 0..CHUNK {
+        let _running = Running { seed, call };
         let turn = call as usize % SUBJECTS.len();
         let subject = &SUBJECTS[turn];
         let case = Case::random(subject, accepted, &mut random);
@@ -301,7 +316,7 @@ fn chunk(seed: u64, accepted: &[(u64, u64)]) -> Tally {
         assert_eq!(
             outcome,
             case.reference(subject),
-            "seed {seed}, call {call}, {} of {case:?}",
+            "{} of {case:?}",
             subject.name
         );
         tally[turn][usize::from(outcome.number)] += 1;
