@@ -3,13 +3,14 @@
 # make lib           the archive, target/staticlib/libspeltfeather.a
 # make dci           the command dci
 # make install       header, archive and pkg-config file, below PREFIX (/usr/local)
+# make robust        random calls and the boundary, with the sanitizers and valgrind (CALLS=1000000 SEED=1)
 # make long          decoding against the second program for some minutes (ROUNDS=60 SEED=1)
 # make bench         times coding and decoding against plain C and the second program
 SHELL := bash
 .SHELLFLAGS := -euo pipefail -c
 .ONESHELL:
 .DELETE_ON_ERROR:
-.PHONY: lib demo test dci install uninstall long bench
+.PHONY: lib demo test dci install uninstall robust long bench
 
 PREFIX ?= /usr/local
 VERSION := $(shell sed -n 's/^version = "\(.*\)"/\1/p' rust/Cargo.toml)
@@ -55,6 +56,17 @@ install: lib
 uninstall:
 	@cd "$(DESTDIR)$$(realpath -m "$(PREFIX)")"
 	rm -f $(INSTALLED)
+
+robust: lib
+	@cd rust
+	robust() { cargo test --quiet --release -p conformance "$$@" -- --nocapture; }
+	robust --test random_bytes --test boundary
+	if command -v valgrind >/dev/null; then
+		watched='target."cfg(all())".runner = ["valgrind", "--quiet", "--error-exitcode=9"]'
+		CALLS=20000 robust --test random_bytes --config "$$watched"
+	else
+		echo 'SKIPPED: valgrind is not installed'
+	fi
 
 long: lib
 	@cd rust
