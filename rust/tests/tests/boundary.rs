@@ -56,8 +56,10 @@ fn pages_without_access() {
 #[test]
 fn sanitizers() {
     let flags = ["-fsanitize=address,undefined", "-fno-sanitize-recover=all"];
-    let program = build("boundary_sanitized", &flags);
-    assert_calls(&mut Command::new(program), 10_000);
+    let mut command = Command::new(build("boundary_sanitized", &flags));
+    // Leaks are left to valgrind: the search for them needs rights that a container may not have.
+    command.env("ASAN_OPTIONS", "detect_leaks=0");
+    assert_calls(&mut command, 10_000);
 }
 
 #[test]
