@@ -14,8 +14,9 @@ use mir.ValLaws.{toZ-ofZ}
 use Rattle.nr.specs.SuccessiveDecoder.{f, g, fs, gs}
 use Rattle.nr.proofs.Ints.{Within}
 use Rattle.nr.proofs.SuccessiveDecoder.{length-fs, getD-fs, length-gs, getD-gs}
-use Rattle.successive_decoder.specs.Levels.{rowOf, Small}
-use Rattle.successive_decoder.proofs.Nodes.{passed₂, small-passed, small-fits}
+use Rattle.nodes.specs.Small.{Small}
+use Rattle.nodes.proofs.Nodes.{passed₂, small-passed, small-fits}
+use Rattle.successive_decoder.specs.Levels.{rowOf}
 
 module _ (w : List ℤ) (h : ℕ) (fits : 4 * h ≤ length w) where
   -- the row of 2h values and its halves, by their places in the array

@@ -1,6 +1,5 @@
 -- The laws that the proofs of the functions cite.
 -- Assumes nothing.
-pub mod Nodes
 pub mod Levels
 pub mod Bounds
 pub mod Step

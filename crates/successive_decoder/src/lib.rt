@@ -1,61 +1,11 @@
 // The successive decoder: it calls itself on both halves of a row of soft values, down to a single position.
 ghost use mathlib.Core.Path.{_≡_};
-ghost use Prim.Native.Nat.{_*_, _≤_, _^_, min};
-ghost use lib.IntN.{pos, natAbs};
+ghost use Prim.Native.Nat.{_*_, _≤_, _^_};
 ghost use lib.ListN.{length, take, drop};
 ghost use Rattle.nr.specs.Transform.{transform};
-ghost use Rattle.nr.specs.SuccessiveDecoder.{f, g, fs, gs, decide, successive};
+ghost use Rattle.nr.specs.SuccessiveDecoder.{fs, gs, successive};
 ghost use Rattle.nr.proofs.Ints.{Within};
-ghost use Rattle.successive_decoder.specs.Levels.{rowOf, Small, Ready};
-
-// The magnitude.
-fn magnitude(a: i32) -> i32
-    requires { ⌜ Small a ⌝ }
-    ensures { λ r. ⌜ r ≡ pos (natAbs a) ⌝ }
-{
-    if a < 0 { -a } else { a }
-}
-
-// The smaller magnitude.
-fn smaller(a: i32, b: i32) -> i32
-    requires { ⌜ Small a × Small b ⌝ }
-    ensures { λ r. ⌜ r ≡ pos (min (natAbs a) (natAbs b)) ⌝ }
-{
-    let x = magnitude(a);
-    let y = magnitude(b);
-    if x < y { x } else { y }
-}
-
-// f: the smaller magnitude with the product of the signs.
-fn check_node(a: i32, b: i32) -> i32
-    requires { ⌜ Small a × Small b ⌝ }
-    ensures { λ r. ⌜ r ≡ f a b ⌝ }
-{
-    let s = smaller(a, b);
-    if a < 0 {
-        if b < 0 { s } else { -s }
-    } else {
-        if b < 0 { -s } else { s }
-    }
-}
-
-// g: b + a for the bit 0, b - a for the bit 1.
-fn bit_node(v: u8, a: i32, b: i32) -> i32
-    requires { ⌜ Small a × Small b ⌝ }
-    ensures { λ r. ⌜ r ≡ g v a b ⌝ }
-{
-    if v == 0 { b + a } else { b - a }
-}
-
-// The bit of a single position: 0 if it is frozen (mark 0), else by the sign.
-fn decision(mark: u8, x: i32) -> u8
-    ensures { λ r. ⌜ r ≡ decide mark x ⌝ }
-{
-    if mark == 0 {
-        return 0;
-    }
-    if x < 0 { 1 } else { 0 }
-}
+ghost use Rattle.successive_decoder.specs.Levels.{rowOf, Ready};
 
 // `work` has a row of M values at M .. 2M, for every M = 2^n at once. This makes the row of `half` values by f from the row of
 // twice as many, which stays.
@@ -68,7 +18,7 @@ fn f_row(work: &mut [i32; 1024], half: usize)
     if half == 1 {
         let a = work[2];
         let b = work[3];
-        let r = check_node(a, b);
+        let r = nodes::check_node(a, b);
         work[1] = r;
         return;
     }
@@ -76,7 +26,7 @@ fn f_row(work: &mut [i32; 1024], half: usize)
     while i < half {
         let a = work[2 * half + i];
         let b = work[3 * half + i];
-        let r = check_node(a, b);
+        let r = nodes::check_node(a, b);
         work[half + i] = r;
         i += 1;
     }
@@ -91,7 +41,7 @@ fn g_row(work: &mut [i32; 1024], half: usize, v: &[u8])
     if half == 1 {
         let a = work[2];
         let b = work[3];
-        let r = bit_node(v[0], a, b);
+        let r = nodes::bit_node(v[0], a, b);
         work[1] = r;
         return;
     }
@@ -99,7 +49,7 @@ fn g_row(work: &mut [i32; 1024], half: usize, v: &[u8])
     while i < half {
         let a = work[2 * half + i];
         let b = work[3 * half + i];
-        let r = bit_node(v[i], a, b);
+        let r = nodes::bit_node(v[i], a, b);
         work[half + i] = r;
         i += 1;
     }
@@ -115,7 +65,7 @@ fn decode(n: usize, work: &mut [i32; 1024], marks: &[u8], est: &mut [u8], sums: 
 {
     if n == 0 {
         let x = work[1];
-        let u = decision(marks[0], x);
+        let u = nodes::decision(marks[0], x);
         est[0] = u;
         sums[0] = u;
     } else {

@@ -12,13 +12,13 @@ use lib.Seq.{length-take-le}
 use borrow.Fn.Kinds.{In}
 use borrow.Fn.PlainCycle.{Measures, is, falls, and}
 use Rattle.nr.specs.SuccessiveDecoder.{decide}
-use Rattle.successive_decoder.proofs.Nodes.{passed}
+use Rattle.nodes.proofs.Nodes.{passed}
 use Rattle.successive_decoder.proofs.Step.{Split, First, Again, Both, f-asks, ready-first, v-size, g-asks, ready-second, combine-asks, est-is, sums-are, work-kept, one-est, one-sums, one-fits}
 use Rattle.successive_decoder.proofs.decode.Reads as decode
 use Rattle.successive_decoder.proofs.decode.Kinds as decode-kinds
 use Rattle.successive_decoder.proofs.+decode.Lts-decode as decode-lts
+use Rattle.nodes.proofs.decision.Reads as decision-reads
 use Rattle.polar.proofs.combine.Reads as combine-reads
-use Rattle.successive_decoder.proofs.decision.Reads as decision-reads
 use Rattle.successive_decoder.proofs.f_row.Reads as f-row-reads
 use Rattle.successive_decoder.proofs.g_row.Reads as g-row-reads
 use Rattle.successive_decoder.proofs.+decode.{statement}

@@ -1,8 +1,8 @@
--- `successive_decoder::magnitude` meets its contract.
+-- `nodes::magnitude` meets its contract.
 -- Assumes nothing.
-use Rattle.successive_decoder.proofs.magnitude.Statement.{statement}
-use Rattle.successive_decoder.proofs.magnitude.Tie as tie
-use Rattle.successive_decoder.proofs.Nodes.{told, abs-neg, abs-pos}
+use Rattle.nodes.proofs.magnitude.Statement.{statement}
+use Rattle.nodes.proofs.magnitude.Tie as tie
+use Rattle.nodes.proofs.Nodes.{told, abs-neg, abs-pos}
 use Rattle.nr.proofs.Ints.{neg-fits, neg-is}
 use mathlib.Core.Path.{_∙_}
 use mathlib.Core.Bool.{true, false}

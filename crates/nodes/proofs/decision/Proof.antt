@@ -1,8 +1,8 @@
--- `successive_decoder::decision` meets its contract.
+-- `nodes::decision` meets its contract.
 -- Assumes nothing.
-use Rattle.successive_decoder.proofs.decision.Statement.{statement}
-use Rattle.successive_decoder.proofs.decision.Tie as tie
-use Rattle.successive_decoder.proofs.Nodes.{told, decide-frozen, decide-neg, decide-pos}
+use Rattle.nodes.proofs.decision.Statement.{statement}
+use Rattle.nodes.proofs.decision.Tie as tie
+use Rattle.nodes.proofs.Nodes.{told, decide-frozen, decide-neg, decide-pos}
 use mathlib.Core.Bool.{true, false}
 
 returns-2 : tie.Need-returns-2

@@ -1,9 +1,9 @@
--- `successive_decoder::smaller` meets its contract.
+-- `nodes::smaller` meets its contract.
 -- Assumes nothing.
 use borrow.Author.Needs.{needs}
-use Rattle.successive_decoder.proofs.smaller.Statement.{statement}
-use Rattle.successive_decoder.proofs.smaller.Tie as tie
-use Rattle.successive_decoder.proofs.Nodes.{least-lt, least-ge, passed}
+use Rattle.nodes.proofs.smaller.Statement.{statement}
+use Rattle.nodes.proofs.smaller.Tie as tie
+use Rattle.nodes.proofs.Nodes.{least-lt, least-ge, passed}
 use mathlib.Core.Path.{_≡_}
 use lib.IntN.{ℤ, pos, natAbs}
 

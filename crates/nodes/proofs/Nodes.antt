@@ -13,7 +13,7 @@ use mir.Val.{SFits, toZ, ofZ}
 use mir.ValLaws.{toZ-ofZ}
 use Rattle.nr.specs.SuccessiveDecoder.{f, g, decide}
 use Rattle.nr.proofs.Ints.{fits, back}
-use Rattle.successive_decoder.specs.Levels.{Small}
+use Rattle.nodes.specs.Small.{Small}
 
 -- ---- what a call says of a signed argument, which it is passed by its bits
 

@@ -1,11 +1,11 @@
--- `successive_decoder::bit_node` meets its contract.
+-- `nodes::bit_node` meets its contract.
 -- Assumes nothing.
 use native.Mathlib.Omega.{arith}
 use mathlib.Core.Path.{_∙_}
 use Rattle.nr.proofs.Ints.{sum-fits, sub-fits, sum-is, sub-is}
-use Rattle.successive_decoder.proofs.Nodes.{g-zero, g-one}
-use Rattle.successive_decoder.proofs.bit_node.Statement.{statement}
-use Rattle.successive_decoder.proofs.bit_node.Tie as tie
+use Rattle.nodes.proofs.Nodes.{g-zero, g-one}
+use Rattle.nodes.proofs.bit_node.Statement.{statement}
+use Rattle.nodes.proofs.bit_node.Tie as tie
 
 returns : tie.Need-returns
 returns c =

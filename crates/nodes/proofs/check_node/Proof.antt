@@ -1,9 +1,9 @@
--- `successive_decoder::check_node` meets its contract.
+-- `nodes::check_node` meets its contract.
 -- Assumes nothing.
 use borrow.Author.Needs.{needs}
-use Rattle.successive_decoder.proofs.check_node.Statement.{statement}
-use Rattle.successive_decoder.proofs.check_node.Tie as tie
-use Rattle.successive_decoder.proofs.Nodes.{least-small, told, passed₂, f-tt, f-tf, f-ft, f-ff}
+use Rattle.nodes.proofs.check_node.Statement.{statement}
+use Rattle.nodes.proofs.check_node.Tie as tie
+use Rattle.nodes.proofs.Nodes.{least-small, told, passed₂, f-tt, f-tf, f-ft, f-ff}
 use Rattle.nr.proofs.Ints.{back, neg-fits, neg-is}
 use Prim.Native.Nat.{min, _≤_, _^_}
 use mathlib.Core.Path.{_≡_, _∙_, ap}
