@@ -1,7 +1,9 @@
 //! A channel with white Gaussian noise: from coded bits to the soft values that a receiver makes.
 
+mod noise;
 mod random;
 
+pub use noise::{Noise, normal_below};
 pub use random::Random;
 
 /// The largest size of a soft value.
@@ -57,6 +59,14 @@ mod tests {
         assert!(mean(1).abs() < 0.02);
         assert!((mean(2) - 1.0).abs() < 0.02);
         assert!((mean(4) - 3.0).abs() < 0.15);
+    }
+
+    #[test]
+    fn each_part_has_its_own_numbers() {
+        let parts: [&[u64]; 6] = [&[1], &[1, 0], &[0, 1], &[1, 2, 3], &[3, 2, 1], &[1, 2, 4]];
+        let first = parts.map(|part| Random::of(part).u64());
+        assert_eq!(first, parts.map(|part| Random::of(part).u64()));
+        assert!((0..6).all(|k| !first[..k].contains(&first[k])));
     }
 
     #[test]

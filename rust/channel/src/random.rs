@@ -19,6 +19,12 @@ impl Random {
         }
     }
 
+    /// The numbers of one part of a work, which these numbers name: each part has its own, whoever
+    /// does it and when.
+    pub fn of(part: &[u64]) -> Self {
+        Self::new(part.iter().fold(0, |state, n| Self::new(state ^ n).u64()))
+    }
+
     pub fn u64(&mut self) -> u64 {
         self.state = self.state.wrapping_add(0x9E37_79B9_7F4A_7C15);
         let mixed = (self.state ^ self.state >> 30).wrapping_mul(0xBF58_476D_1CE4_E5B9);
