@@ -6,11 +6,13 @@
 # make robust        random calls and the boundary, with the sanitizers and valgrind (CALLS=1000000 SEED=1)
 # make long          decoding against the second program for some minutes (ROUNDS=60 SEED=1)
 # make bench         times coding and decoding against plain C and the second program
+# make bler          block error rate in white noise, into docs/bler.csv and docs/bler.svg (BLOCKS=400000 SEED=1)
+# make false-alarms  how often noise is taken for a message (ROWS=20000000 SEED=1)
 SHELL := bash
 .SHELLFLAGS := -euo pipefail -c
 .ONESHELL:
 .DELETE_ON_ERROR:
-.PHONY: lib demo test dci install uninstall robust long bench
+.PHONY: lib demo test dci install uninstall robust long bench bler false-alarms
 
 PREFIX ?= /usr/local
 VERSION := $(shell sed -n 's/^version = "\(.*\)"/\1/p' rust/Cargo.toml)
@@ -75,3 +77,11 @@ long: lib
 bench: lib
 	@cd rust
 	cargo run --quiet --release -p bench
+
+bler: lib
+	@cd rust
+	cargo run --quiet --release -p bler -- ../docs
+
+false-alarms: lib
+	@cd rust
+	cargo run --quiet --release -p bler --bin false-alarms
