@@ -6,7 +6,7 @@
 # make robust        random calls and the boundary, with the sanitizers and valgrind (CALLS=1000000 SEED=1)
 # make long          decoding against the second program for some minutes (ROUNDS=60 SEED=1)
 # make bench         times coding and decoding against plain C and the second program
-# make bler          block error rate in white noise, into docs/bler.csv and docs/bler.svg (BLOCKS=400000 SEED=1)
+# make bler          block error rate in white noise: docs/bler.csv, docs/bler.svg (A=40 BLOCKS=400000 SEED=1 TO=docs)
 # make false-alarms  how often noise is taken for a message (ROWS=20000000 SEED=1)
 SHELL := bash
 .SHELLFLAGS := -euo pipefail -c
@@ -78,9 +78,10 @@ bench: lib
 	@cd rust
 	cargo run --quiet --release -p bench
 
+bler: TO ?= docs
 bler: lib
 	@cd rust
-	cargo run --quiet --release -p bler -- ../docs
+	cargo run --quiet --release -p bler -- "$(abspath $(TO))"
 
 false-alarms: lib
 	@cd rust

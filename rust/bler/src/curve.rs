@@ -6,7 +6,7 @@ use crate::block::{Block, Tally};
 use crate::progress::Progress;
 use channel::{Channel, Random};
 
-/// Aggregation levels, each with the ratio in dB at which its curve begins.
+/// Aggregation levels, each with the ratio in dB at which its curve begins for 40 payload bits.
 pub const LEVELS: [(u64, f64); 5] = [(1, -1.0), (2, -5.0), (4, -8.0), (8, -11.0), (16, -14.0)];
 
 /// Between two points of a curve.
@@ -36,6 +36,14 @@ pub struct Run {
     pub blocks: u64,
     pub seed: u64,
     pub threads: usize,
+}
+
+impl Run {
+    /// Where a curve begins that would begin there for 40 payload bits: each of more bits, the parity
+    /// counted, has less of the energy.
+    pub fn shifted(&self, from_db: f64) -> f64 {
+        from_db + (10.0 * ((self.a + 24) as f64 / 64.0).log10()).floor()
+    }
 }
 
 #[derive(Clone, Copy, Debug, PartialEq)]
@@ -149,6 +157,15 @@ mod tests {
         // No line can be drawn to a rate of which nothing is known.
         assert_eq!(crossing(&[(1.0, 0.5), (2.0, 0.0)], 1e-1), None);
         assert_eq!(crossing(&[], 1e-1), None);
+    }
+
+    #[test]
+    fn curves_of_more_bits_begin_later() {
+        let shifted = |a| Run { a, ..RUN }.shifted(-5.0);
+        assert_eq!(
+            [12, 39, 40, 57, 84].map(shifted),
+            [-8.0, -6.0, -5.0, -4.0, -3.0]
+        );
     }
 
     #[test]

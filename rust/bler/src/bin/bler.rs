@@ -7,19 +7,18 @@ use std::path::{Path, PathBuf};
 use std::process::exit;
 use std::{env, fs};
 
-/// A size that fits every coded length, and that of a common message.
-const PAYLOAD_SIZE: u64 = 40;
-
 fn main() {
     let directory = directory();
     let run = Run {
-        a: PAYLOAD_SIZE,
-        blocks: settings::number("BLOCKS", 400_000, 1),
-        seed: settings::number("SEED", 1, 0),
+        // About the size of format 1_0. Sizes to 84 fit every coded length.
+        a: settings::number("A", 40, 12..=84),
+        blocks: settings::number("BLOCKS", 400_000, 1..=1_000_000_000),
+        seed: settings::number("SEED", 1, 0..=u64::MAX),
         threads: settings::threads(),
     };
     let mut progress = Progress::on_stderr();
-    let curves = LEVELS.map(|(level, from_db)| curve(&run, level, from_db, &mut progress));
+    let measured = |(level, from_db)| curve(&run, level, run.shifted(from_db), &mut progress);
+    let curves = LEVELS.map(measured);
     progress.clear();
     print_crossings(&run, &curves);
     print_distance(&curves);

@@ -6,8 +6,8 @@ use bler::settings;
 
 fn main() {
     let run = Run {
-        rows: settings::number("ROWS", 20_000_000, 1),
-        seed: settings::number("SEED", 1, 0),
+        rows: settings::number("ROWS", 20_000_000, 1..=1_000_000_000_000),
+        seed: settings::number("SEED", 1, 0..=u64::MAX),
         threads: settings::threads(),
     };
     let mut progress = Progress::on_stderr();

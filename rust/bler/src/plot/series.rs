@@ -93,7 +93,7 @@ fn label(curve: &Curve, seen: &[Point], view: &View) -> String {
     let Some((snr_db, rate)) = crossing.or_else(last) else {
         return String::new();
     };
-    let (x, y) = (view.x(snr_db) + 11.0, view.y(rate));
+    let (x, y) = (view.x(snr_db) + 14.0, view.y(rate));
     let (level, e, above) = (curve.level, curve.e(), y - 17.0);
     format!(
         "<text x=\"{x:.1}\" y=\"{above:.1}\">level {level}</text>\n\
