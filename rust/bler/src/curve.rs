@@ -134,6 +134,7 @@ fn tallied(a: u64, e: u64, blocks: u64, channel: &Channel, random: &mut Random) 
 #[cfg(test)]
 mod tests {
     use super::*;
+    use channel::normal_below;
 
     const RUN: Run = Run {
         a: 40,
@@ -178,6 +179,20 @@ mod tests {
         }
         let other = Run { seed: 6, ..RUN };
         assert_ne!(curve(&other, 1, 3.5, &mut Progress::Nowhere), one);
+    }
+
+    #[test]
+    fn without_a_code_every_sign_must_be_right() {
+        // 84 payload bits and the parity fill all 108 bits.
+        let run = Run { a: 84, ..RUN };
+        for snr_db in [8.0, 9.0, 10.0] {
+            let wrong = normal_below(-10f64.powf(snr_db / 20.0));
+            let expected = 1.0 - (1.0 - wrong).powi(108);
+            let rate = point(&run, 108, snr_db, &mut Progress::Nowhere)
+                .tally
+                .rate();
+            assert!((rate / expected - 1.0).abs() < 0.1, "{rate} {expected}");
+        }
     }
 
     #[test]
