@@ -11,8 +11,11 @@ pub const RIGHT: f64 = 876.0;
 pub const TOP: f64 = 58.0;
 pub const BOTTOM: f64 = 492.0;
 
-/// Room in dB to the left of the first mark, and to the right of the last for a label.
-const ROOM_DB: (f64, f64) = (0.5, 2.2);
+/// Room to the left of the first mark, in dB.
+const ROOM_DB: f64 = 0.5;
+
+/// Room to the right of the last mark for a label, as a share of the way from the first.
+const LABEL_ROOM: f64 = 0.115;
 
 /// A straight scale from values to places.
 #[derive(Clone, Copy, Debug)]
@@ -38,12 +41,13 @@ impl View {
     /// A view of whole dB that holds all points of the curves and their labels.
     pub fn around(curves: &[Curve]) -> Self {
         let points = curves.iter().flat_map(|curve| &curve.points);
-        let range = points.fold((0.0f64, 0.0f64), |(low, high), point| {
+        let (low, high) = points.fold((0.0f64, 0.0f64), |(low, high), point| {
             (low.min(point.snr_db), high.max(point.snr_db))
         });
+        let label = LABEL_ROOM * (high - low);
         Self {
             db: Scale {
-                values: ((range.0 - ROOM_DB.0).floor(), (range.1 + ROOM_DB.1).ceil()),
+                values: ((low - ROOM_DB).floor(), (high + label).ceil()),
                 places: (LEFT, RIGHT),
             },
             logarithm: Scale {
@@ -97,7 +101,7 @@ mod tests {
         };
         let points = [-3.5, 6.5].map(point).to_vec();
         let view = View::around(&[Curve { level: 1, points }]);
-        assert_eq!(view.db.values, (-4.0, 9.0));
-        assert!(view.x(-3.5) > LEFT && view.x(6.5) < RIGHT - 70.0);
+        assert_eq!(view.db.values, (-4.0, 8.0));
+        assert!(view.x(-3.5) > LEFT && view.x(6.5) < RIGHT - 75.0);
     }
 }
