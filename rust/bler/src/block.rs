@@ -123,7 +123,7 @@ mod tests {
 
     #[test]
     fn the_second_program_judges_the_same_rows_alike() {
-        // About half of the blocks of each length are read.
+        // About a quarter of the blocks of each length is lost.
         let lengths = [
             (108, 2.5),
             (216, -1.0),
