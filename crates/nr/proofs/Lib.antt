@@ -20,5 +20,6 @@ pub mod Refusals
 pub mod Demand1
 pub mod Demand3
 pub mod Loopback
+pub mod Describing
 pub mod Kronecker
 pub mod MarkedCases

@@ -15,3 +15,4 @@ pub mod Coding
 pub mod Decoding
 pub mod Demand3
 pub mod Loopback
+pub mod Describing
