@@ -1,6 +1,6 @@
 -- What the marked positions come to: document 01's information positions.
 -- Assumes nothing.
-use Prim.Native.Nat.{ℕ, _-_, _^_, _≤_}
+use Prim.Native.Nat.{ℕ, _^_, _≤_}
 use native.Mathlib.Omega.{arith}
 use mathlib.Core.Path.{_≡_, refl, sym, subst, ap, _∙_}
 use mathlib.Core.Bool.{Bool, true, false, not, cond}
@@ -12,9 +12,9 @@ use Rattle.nr.specs.Reliability.{reliability}
 use Rattle.nr.specs.SuccessiveDecoder.{marks}
 use Rattle.nr.specs.Construction.{N, n, rateMatching, free, chosen, layout}
 use Rattle.nr.proofs.Rows.{keep-cong, ranged}
-use Rattle.nr.proofs.Construction.{Sized, exponent, n-by-length, enough, positions}
-use Rattle.construction.specs.declared.Window.{Window}
-use Rattle.construction.specs.Window.{usable, admits, marked}
+use Rattle.nr.proofs.Construction.{Sized, n-by-length, enough, positions}
+use Rattle.construction.specs.declared.Shape.{Shape}
+use Rattle.construction.specs.Window.{usable, admits, Shapes, marked}
 use Rattle.nr.proofs.RoundTrip.{length-marks, marks-at}
 
 -- the places that are marked
@@ -27,27 +27,35 @@ marked-marks N ps =
     bool true = refl
     bool false = refl
 
--- for a window that admits what is not barred
-module _ (K E : ℕ) (s : Sized K E) (m : ℕ) (e : m ≡ exponent E) (w : Window)
-    (same : (p : ℕ) → admits m w p ≡ usable (rateMatching K E) (2 ^ m) E p) where
-  pub exponent-is : m ≡ n K E
-  exponent-is = e ∙ sym (n-by-length K E s)
+-- for a shape whose window admits what is not barred
+module _ (K E : ℕ) (s : Sized K E) (shape : Shape) (l : Shapes K E shape) where
+  abbrev m : ℕ
+  m = shape .n
 
-  admitted : keep (admits m w) reliability ≡ free (rateMatching K E) (N K E) E
+  abbrev admitted : ℕ → Bool
+  admitted = admits m (shape .window)
+
+  pub exponent-is : m ≡ n K E
+  exponent-is = l .n ∙ sym (n-by-length K E s)
+
+  free-are : keep admitted reliability ≡ free (rateMatching K E) (N K E) E
   unfolding free
-  admitted =
-      keep-cong (admits m w) (usable (rateMatching K E) (2 ^ m) E) reliability (λ p h. same p)
+  free-are =
+      keep-cong admitted (usable (rateMatching K E) (2 ^ m) E) reliability (λ p h. l .window p)
       ∙ ap (λ (k : ℕ). keep (usable (rateMatching K E) (2 ^ k) E) reliability) exponent-is
 
-  pub wanted : K ≤ length (keep (admits m w) reliability)
-  wanted = subst (λ (r : List ℕ). K ≤ length r) (sym admitted) (enough K E s)
+  pub wanted : shape .k ≤ length (keep admitted reliability)
+  wanted = rw (l .k, free-are) (enough K E s)
 
-  pub positions-are : marked (marks (2 ^ m) (last K (keep (admits m w) reliability))) ≡ layout K E .positions
+  pub best-are : last (shape .k) (keep admitted reliability) ≡ last K (free (rateMatching K E) (N K E) E)
+  best-are = rw (l .k, free-are)
+
+  pub positions-are : marked (marks (2 ^ m) (last (shape .k) (keep admitted reliability))) ≡ layout K E .positions
   unfolding layout chosen
   positions-are =
-      marked-marks (2 ^ m) (last K (keep (admits m w) reliability))
-      ∙ ap (λ (r : List ℕ). keep (λ p. has p (last K r)) (count 0 (2 ^ m))) admitted
+      marked-marks (2 ^ m) (last (shape .k) (keep admitted reliability))
+      ∙ ap (λ (r : List ℕ). keep (λ p. has p r) (count 0 (2 ^ m))) best-are
       ∙ ap (λ (k : ℕ). keep (λ p. has p (last K (free (rateMatching K E) (N K E) E))) (count 0 (2 ^ k))) exponent-is
 
-  pub few : length (marked (marks (2 ^ m) (last K (keep (admits m w) reliability)))) ≤ 164
+  pub few : length (marked (marks (2 ^ m) (last (shape .k) (keep admitted reliability)))) ≤ 164
   few = subst (λ (k : ℕ). k ≤ 164) (sym (ap length positions-are ∙ positions K E s .size)) (s .high)

@@ -5,3 +5,4 @@ pub mod Ranks
 pub mod Choice
 pub mod Collection
 pub mod Layouts
+pub mod Roles

@@ -2,7 +2,7 @@
 -- Assumes nothing.
 use Prim.Native.Nat.{ℕ, _*_, _^_, _≤_, _<_}
 use native.Mathlib.Omega.{arith}
-use mathlib.Core.Path.{_≡_, refl, sym, ap, _∙_}
+use mathlib.Core.Path.{_≡_, refl, sym, subst, ap, _∙_}
 use mathlib.Core.Bool.{Bool, true, false, cond}
 use lib.Dec.{T, eqb, leb, eqb→eq, leb→le}
 use borrow.Author.Tests.{le-leb, lt-leb, leb-true, leb-false}
@@ -13,7 +13,8 @@ use Rattle.nr.specs.Construction.{log2up, n, N, lowRate, rateMatching}
 use Rattle.nr.proofs.Tests.{all, all-has, holds}
 use Rattle.nr.proofs.Construction.{Sized, exponent, n-by-length}
 use Rattle.nr.proofs.Refusals.{longest}
-use Rattle.construction.specs.Window.{Applies}
+use Rattle.construction.specs.declared.Shape.{Shape}
+use Rattle.construction.specs.Window.{Applies, Shapes}
 
 -- ---- the code length
 
@@ -46,6 +47,9 @@ size E h = record {
   len = leb→le (2 ^ exponent E) 512 (all-has (λ F. leb (2 ^ exponent F) 512) lengths (size-test .2) E h);
   length = longest E h;
 }
+
+pub shape-size : (K E : ℕ) → Sized K E → (shape : Shape) → Shapes K E shape → Size E (shape .n)
+shape-size K E s shape l = subst (Size E) (sym (l .n)) (size E (s .length))
 
 -- ---- the kind
 

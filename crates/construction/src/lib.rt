@@ -1,4 +1,4 @@
-// N, the kind of rate matching and the information positions of a code (38.212 5.3.1, 5.4.1), worked out from A and E.
+// N, the kind of rate matching and what each position is for (38.212 5.3.1, 5.4.1), worked out from A and E.
 mod table;
 
 use nr::RateMatching;
@@ -6,15 +6,17 @@ ghost use mathlib.Core.Path.{_≡_};
 ghost use mathlib.Core.Bool.{true};
 ghost use Prim.Native.Nat.{ℕ, _+_, _≤_, _<_, _^_};
 ghost use lib.ListN.{length, replicate};
-ghost use Rattle.nr.specs.Rows.{has, keep, last};
+ghost use mathlib.Core.List.{map};
+ghost use Rattle.nr.specs.Rows.{count, has, keep, last};
 ghost use Rattle.nr.specs.Numbers.{K};
 ghost use Rattle.nr.specs.Answer.{lengths, refusal};
 ghost use Rattle.nr.specs.Reliability.{reliability};
 ghost use Rattle.nr.specs.Construction.{N, rateMatching, layout};
 ghost use Rattle.nr.specs.SuccessiveDecoder.{marks};
+ghost use Rattle.nr.specs.Describing.{barredAs, roles};
 ghost use Rattle.nr.proofs.Construction.{exponent};
 ghost use Rattle.nr.proofs.SubBlocks.{rank};
-ghost use Rattle.construction.specs.Window.{ranks, Applies, usable, admits, marked, padded, Lays};
+ghost use Rattle.construction.specs.Window.{ranks, Applies, usable, admits, Shapes, marked, padded, Lays, roleOf};
 
 // N = 2^n, how E bits are made of the N code bits, and the K information positions, ascending, with 0 past K.
 pub struct Layout {
@@ -28,6 +30,15 @@ pub struct Window {
     pub front: usize,
     pub lo: usize,
     pub hi: usize,
+}
+
+// A code's K, n, N = 2^n, kind, and the window of its positions.
+pub struct Shape {
+    pub k: usize,
+    pub n: usize,
+    pub len: usize,
+    pub kind: RateMatching,
+    pub window: Window,
 }
 
 // n, for our lengths. The 9/8 rule, the limit 8K and the floor of 32 never change it (`n-by-length`).
@@ -80,6 +91,26 @@ fn window_of(kind: RateMatching, len: usize, e: usize) -> Window
     }
 }
 
+// The shape of the code for A and E.
+fn shape_of(a: u64, e: u64) -> Shape
+    requires { ⌜ refusal a e ≡ 0 ⌝ }
+    ensures { λ r. ⌜ Shapes (K a) e r ⌝ }
+{
+    let k = (a as usize) + 24;
+    let e = e as usize;
+    let n = exponent(e);
+    let len = 1 << n;
+    let kind = rate_matching(k, e, len);
+    let window = window_of(kind, len, e);
+    Shape {
+        k,
+        n,
+        len,
+        kind,
+        window,
+    }
+}
+
 // The i with J(i) = p, for N = 32 * 2^shift.
 fn rank(inverse: &[u8], shift: usize, p: usize) -> usize
     requires { ⌜ (now inverse ≡ ranks) × (shift ≤ 4) × (p < 2 ^ (shift + 5)) ⌝ }
@@ -125,6 +156,16 @@ fn choose(table: &[u16], inverse: &[u8], n: usize, w: Window, k: usize, row: &mu
     }
 }
 
+// The same by the tables of the construction.
+fn mark(n: usize, w: Window, k: usize, row: &mut [u8])
+    requires { ⌜ (5 ≤ n) × (n ≤ 9) × (k ≤ length (keep (admits n w) reliability)) × (now row ≡ replicate (2 ^ n) 0) ⌝ }
+    ensures { λ _. ⌜ now (row .exit) ≡ marks (2 ^ n) (last k (keep (admits n w) reliability)) ⌝ }
+{
+    let table = table::RELIABILITY;
+    let inverse = table::RANKS;
+    choose(&table, &inverse, n, w, k, row);
+}
+
 // The marked positions, ascending.
 fn collect(row: &[u8], positions: &mut [u16])
     requires { ⌜ (length (now row) ≤ 512) × (length (marked (now row)) ≤ 164) × (now positions ≡ replicate 164 0) ⌝ }
@@ -148,10 +189,8 @@ fn select(n: usize, len: usize, w: Window, k: usize) -> [u16; 164]
     requires { ⌜ (k ≤ length (keep (admits n w) reliability)) × (length (marked (marks (2 ^ n) (last k (keep (admits n w) reliability)))) ≤ 164) ⌝ }
     ensures { λ r. ⌜ r ≡ padded (marked (marks (2 ^ n) (last k (keep (admits n w) reliability)))) ⌝ }
 {
-    let table = table::RELIABILITY;
-    let inverse = table::RANKS;
     let mut row = [0u8; 512];
-    choose(&table, &inverse, n, w, k, &mut row[..len]);
+    mark(n, w, k, &mut row[..len]);
     let mut positions = [0u16; 164];
     collect(&row[..len], &mut positions);
     positions
@@ -162,12 +201,68 @@ pub fn construct(a: u64, e: u64) -> Layout
     requires { ⌜ refusal a e ≡ 0 ⌝ }
     ensures { λ r. ⌜ Lays (layout (K a) e) r ⌝ }
 {
-    let k = (a as usize) + 24;
-    let e = e as usize;
-    let n = exponent(e);
-    let len = 1 << n;
-    let kind = rate_matching(k, e, len);
-    let w = window_of(kind, len, e);
+    let s = shape_of(a, e);
+    let k = s.k;
+    let n = s.n;
+    let len = s.len;
+    let kind = s.kind;
+    let w = s.window;
     let positions = select(n, len, w, k);
     Layout { n, kind, positions }
+}
+
+// The number of a barred position: 2 punctured, 3 shortened.
+fn barred_as(kind: RateMatching) -> u8
+    ensures { λ r. ⌜ r ≡ barredAs kind ⌝ }
+{
+    match kind {
+        RateMatching::Repetition => 2,
+        RateMatching::Puncturing => 2,
+        RateMatching::Shortening => 3,
+    }
+}
+
+// What a position is for: 4 past the row's end, `bar` outside the window, else its mark.
+fn role(inverse: &[u8], n: usize, w: Window, bar: u8, row: &[u8], p: usize) -> u8
+    requires { ⌜ (now inverse ≡ ranks) × (5 ≤ n) × (n ≤ 9) ⌝ }
+    ensures { λ r. ⌜ r ≡ roleOf n w bar (now (row .entry)) p ⌝ }
+{
+    if row.len() <= p {
+        return 4;
+    }
+    if is_admitted(inverse, n, w, p) {
+        row[p]
+    } else {
+        bar
+    }
+}
+
+// What each position is for.
+fn fill(inverse: &[u8], n: usize, w: Window, bar: u8, row: &[u8], out: &mut [u8])
+    requires { ⌜ (now inverse ≡ ranks) × (5 ≤ n) × (n ≤ 9) ⌝ }
+    ensures { λ _. ⌜ now (out .exit) ≡ map (roleOf n w bar (now (row .entry))) (count 0 (length (now (out .entry)))) ⌝ }
+{
+    let mut i = 0;
+    while i < out.len() {
+        out[i] = role(inverse, n, w, bar, row, i);
+        i += 1;
+    }
+}
+
+// What each position of the code for A and E is for.
+pub fn describe(a: u64, e: u64, out: &mut [u8])
+    requires { ⌜ (refusal a e ≡ 0) × (length (now out) ≡ 512) ⌝ }
+    ensures { λ _. ⌜ now (out .exit) ≡ roles (K a) e ⌝ }
+{
+    let s = shape_of(a, e);
+    let k = s.k;
+    let n = s.n;
+    let len = s.len;
+    let kind = s.kind;
+    let w = s.window;
+    let bar = barred_as(kind);
+    let mut row = [0u8; 512];
+    mark(n, w, k, &mut row[..len]);
+    let inverse = table::RANKS;
+    fill(&inverse, n, w, bar, &row[..len], out);
 }

@@ -1,17 +1,13 @@
 -- `construction::construct` meets its contract.
 -- Assumes nothing.
-use Prim.Native.Nat.{ℕ, _*_, _%_, _^_}
-use native.Mathlib.Omega.{arith}
-use mathlib.Core.Path.{_≡_, sym, subst, ap, _∙_}
-use Rattle.nr.specs.declared.RateMatching.{RateMatching}
-use Rattle.nr.specs.Numbers.{K}
-use Rattle.nr.specs.Construction.{N, rateMatching, layout}
-use Rattle.nr.proofs.Words.{shl-one}
-use Rattle.nr.proofs.Construction.{Sized, clear, accepted, n-by-length}
-use Rattle.construction.specs.Window.{usable, admits, padded}
-use Rattle.construction.proofs.Sizes.{Size, size, kind-applies}
-use Rattle.construction.proofs.Layouts.{exponent-is, wanted, positions-are, few}
 use borrow.Author.Needs.{needs}
+use mathlib.Core.Path.{ap, _∙_}
+use Rattle.nr.specs.Numbers.{K}
+use Rattle.nr.specs.Construction.{layout}
+use Rattle.nr.proofs.Construction.{Sized, accepted}
+use Rattle.construction.specs.Window.{padded}
+use Rattle.construction.proofs.Sizes.{shape-size}
+use Rattle.construction.proofs.Layouts.{exponent-is, wanted, positions-are, few}
 use Rattle.construction.proofs.construct.Statement.{statement}
 use Rattle.construction.proofs.construct.Tie as tie
 
@@ -19,80 +15,30 @@ use Rattle.construction.proofs.construct.Tie as tie
 sized : (c : tie.Start) → Sized (K (c .args .a)) (c .args .e)
 sized c = accepted (c .args .a) (c .args .e) (c .pre)
 
--- n and N
-sizes : (c : tie.After-exponent) → Size (c .before .args .e) (c .exponent .result)
-sizes c = subst (Size (c .before .args .e)) (sym (c .exponent .ensures)) (size (c .before .args .e) (sized (c .before) .length))
-
-power : (c : tie.After-exponent) → 1 * 2 ^ c .exponent .result % 2 ^ 64 ≡ 2 ^ c .exponent .result
-power c = shl-one (c .exponent .result) (omega (arith, sizes c .high))
-
-code : (c : tie.After-exponent) → 2 ^ c .exponent .result ≡ N (K (c .before .args .a)) (c .before .args .e)
-code c = ap (λ (m : ℕ). 2 ^ m) (c .exponent .ensures ∙ sym (n-by-length (K (c .before .args .a)) (c .before .args .e) (sized (c .before))))
-
--- the window admits what is not barred
-admission : (c : tie.After-window-of) → let x = c .before .before in (p : ℕ)
-    → admits (x .exponent .result) (c .window-of .result) p ≡ usable (rateMatching (K (x .before .args .a)) (x .before .args .e)) (2 ^ x .exponent .result) (x .before .args .e) p
-admission c p =
-    let x = c .before .before in
-    let e = x .before .args .e in
-    c .window-of .ensures (x .exponent .result) (sizes x .low) (power x) p
-    ∙ ap (λ (len : ℕ). usable (c .before .rate-matching .result) len e p) (power x)
-    ∙ ap (λ (kind : RateMatching). usable kind (2 ^ x .exponent .result) e p) (c .before .rate-matching .ensures)
-
-add-k : tie.Need-add-k
-add-k c = omega (arith, sized c .high)
-
-exponent-requires : tie.Need-exponent-requires
-exponent-requires c κs = clear (c .args .a) (c .args .e) (c .pre) .length
-
-shl-len : tie.Need-shl-len
-shl-len c = search needs
-
-rate-matching-requires : tie.Need-rate-matching-requires
-rate-matching-requires c κs = (sized (c .before) .high, sizes c .length, power c ∙ code c)
-
-window-of-requires : tie.Need-window-of-requires
-window-of-requires c κs =
-    let x = c .before in
-    let s = x .before in (
-      omega (arith, power x, sizes x .len),
-      sizes x .length,
-      rw (c .rate-matching .ensures, power x, code x) (kind-applies (K (s .args .a)) (s .args .e) (sized s)),
-    )
+shape-of-requires : tie.Need-shape-of-requires
+shape-of-requires c κs = search needs
 
 select-requires : tie.Need-select-requires
 select-requires c κs =
-    let x = c .before .before in
+    let x = c .before in
     let s = x .before in
-    let n = x .exponent .result in (
-      (sizes x .low, sizes x .high, power x),
+    let z = shape-size (K (s .args .a)) (s .args .e) (sized s) (x .shape-of .result) (x .shape-of .ensures) in (
+      (z .low, z .high, x .shape-of .ensures .len),
       (
-        wanted (K (s .args .a)) (s .args .e) (sized s) n (x .exponent .ensures) (c .window-of .result) (admission c),
-        few (K (s .args .a)) (s .args .e) (sized s) n (x .exponent .ensures) (c .window-of .result) (admission c),
+        wanted (K (s .args .a)) (s .args .e) (sized s) (x .shape-of .result) (x .shape-of .ensures),
+        few (K (s .args .a)) (s .args .e) (sized s) (x .shape-of .result) (x .shape-of .ensures),
       ),
     )
 
 returns : tie.Need-returns
 unfolding layout
 returns c =
-    let v = c .before in
-    let x = v .before .before in
-    let s = x .before in
-    let n = x .exponent .result in
-    let w = v .window-of .result in record {
-      n = exponent-is (K (s .args .a)) (s .args .e) (sized s) n (x .exponent .ensures) w (admission v);
-      kind = v .before .rate-matching .ensures;
-      positions = c .select .ensures ∙ ap padded (positions-are (K (s .args .a)) (s .args .e) (sized s) n (x .exponent .ensures) w (admission v));
+    let x = c .before .before in
+    let s = x .before in record {
+      n = exponent-is (K (s .args .a)) (s .args .e) (sized s) (x .shape-of .result) (x .shape-of .ensures);
+      kind = x .shape-of .ensures .kind;
+      positions = c .select .ensures ∙ ap padded (positions-are (K (s .args .a)) (s .args .e) (sized s) (x .shape-of .result) (x .shape-of .ensures));
     }
 
 pub construct-spec : {M : Type 1} → statement M
-construct-spec =
-    tie.close
-    (tie.spec
-    add-k
-    exponent-requires
-    shl-len
-    rate-matching-requires
-    window-of-requires
-    select-requires
-    returns)
+construct-spec = tie.close (tie.spec shape-of-requires select-requires returns)
