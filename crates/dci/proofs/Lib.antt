@@ -4,3 +4,4 @@ pub mod Made
 pub mod Outcomes
 pub mod Judging
 pub mod Looping
+pub mod Telling

@@ -15,6 +15,7 @@ ghost use Rattle.nr.specs.Scrambling.{cInit};
 ghost use Rattle.nr.specs.Coding.{coded, coding};
 ghost use Rattle.nr.specs.Decoding.{decided, decoding};
 ghost use Rattle.nr.specs.Loopback.{looped};
+ghost use Rattle.nr.specs.Describing.{describing};
 ghost use Rattle.nr.proofs.Ints.{Within};
 ghost use Rattle.nr.proofs.Loopback.{Loops};
 ghost use Rattle.dci.specs.Judged.{judged};
@@ -166,4 +167,17 @@ pub fn loopback(numbers: Numbers, payload: &[u8], strengths: &[i32], out: &mut [
         return Answer::BadEntry(payload.len() + strength);
     }
     through(numbers, payload, strengths, out)
+}
+
+// What each of the positions 0..511 of the code for A and E is for, or the first number of 1, 2, 3 and 5 that applies, and the
+// output stays as it is.
+pub fn describe(a: u64, e: u64, out: &mut [u8]) -> Answer
+    ensures { λ r. ⌜ given r (now (out .exit)) ≡ describing a e (now (out .entry)) ⌝ }
+{
+    let sizes = checks::check_sizes(a, e, 0, 0, out.len(), 512);
+    let Answer::Done = sizes else {
+        return sizes;
+    };
+    construction::describe(a, e, out);
+    Answer::Done
 }

@@ -7,6 +7,7 @@ ghost use Rattle.nr.specs.Answer.{number, placeOf};
 ghost use Rattle.nr.specs.Coding.{coding};
 ghost use Rattle.nr.specs.Decoding.{decoding};
 ghost use Rattle.nr.specs.Loopback.{looped};
+ghost use Rattle.nr.specs.Describing.{describing};
 ghost use Rattle.speltfeather.specs.Packed.{numbers, Returns};
 
 // An answer as one number: its own plus 256 times the place that it carries.
@@ -73,5 +74,14 @@ pub extern "C" fn spelt_loopback(
     ensures { λ r. ⌜ Returns (looped (numbers a e rnti «n_id») (now (payload .entry)) (now (strengths .entry)) (now (out .entry))) r (now (out .exit)) ⌝ }
 {
     let answer = dci::loopback(Numbers { a, e, rnti, n_id }, payload, strengths, out);
+    pack(answer)
+}
+
+// What each position of a code is for: `dci::describe`.
+#[no_mangle]
+pub extern "C" fn spelt_describe(a: u64, e: u64, out: &mut [u8]) -> u64
+    ensures { λ r. ⌜ Returns (describing a e (now (out .entry))) r (now (out .exit)) ⌝ }
+{
+    let answer = dci::describe(a, e, out);
     pack(answer)
 }
