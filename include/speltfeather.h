@@ -7,7 +7,8 @@
  * Link with libspeltfeather.a. Nothing has to be set up first, and nothing is
  * kept between calls: calls may run in any number of threads at once. A call
  * allocates nothing, and of the C library it needs memcpy and memset alone. On
- * the stack coding takes about 5 kB, decoding 17 kB and the self-test 26 kB.
+ * the stack coding takes about 5 kB, decoding 17 kB, the self-test 26 kB and
+ * describing a code 2 kB.
  */
 #ifndef SPELTFEATHER_H
 #define SPELTFEATHER_H
@@ -39,12 +40,14 @@ enum spelt_number {
 /*
  * What they ask of the buffers, and which can come:
  *
- *                  spelt_encode   spelt_decode   spelt_loopback
- *   0  out holds   e bits         a bits         a bits
- *   4  lengths     payload a      soft e         payload a, strengths e
- *   5  length      out e          out a          out a
- *   6  range       payload 0, 1   soft -127..127 payload 0, 1; strengths 1..127
- *   7              never          may come       never
+ *                 spelt_encode   spelt_decode   spelt_loopback   spelt_describe
+ *   0  out holds  e bits         a bits         a bits           512 roles
+ *   4  lengths    payload a      soft e         payload a,       never
+ *                                               strengths e
+ *   5  length     out e          out a          out a            out 512
+ *   6  range      payload 0, 1   soft -127..127 payload 0, 1;    never
+ *                                               strengths 1..127
+ *   7             never          may come       never            never
  */
 
 /* The number in the answer r of a call: one of enum spelt_number. */
@@ -126,6 +129,38 @@ uint64_t spelt_loopback(uint64_t a, uint64_t e, uint16_t rnti, uint16_t n_id,
                         const uint8_t *payload, size_t payload_len,
                         const int32_t *strengths, size_t strengths_len,
                         uint8_t *out, size_t out_len);
+
+/* What a position of a code is for. */
+enum spelt_role {
+    SPELT_FROZEN = 0,      /* frozen: other positions are more reliable */
+    SPELT_INFORMATION = 1, /* carries a bit of payload or parity */
+    SPELT_PUNCTURED = 2,   /* frozen because of puncturing */
+    SPELT_SHORTENED = 3,   /* frozen because of shortening */
+    SPELT_NONE = 4         /* not a position of this code: not below N */
+};
+
+/* How many roles spelt_describe gives. */
+#define SPELT_ROLES 512
+
+/*
+ * Tells what each position of the code for a and e is for, as the other calls
+ * use it: to show it, or to check a table against it.
+ *
+ *   out      takes the role of each of the positions 0 to 511, one of enum
+ *            spelt_role in each byte
+ *
+ * The code length N is the count of roles that are not SPELT_NONE. There are
+ * a + 24 information positions; the first of them carries the first bit of the
+ * interleaved row. Roles SPELT_PUNCTURED or SPELT_SHORTENED come exactly where
+ * e is below N, and say which of the two applies; without them coded bits are
+ * repeated.
+ *
+ *   uint8_t role[SPELT_ROLES];
+ *   uint64_t r = spelt_describe(37, 432, role, SPELT_ROLES);
+ *   if (SPELT_NUMBER(r) == SPELT_DONE && role[300] == SPELT_INFORMATION)
+ *       puts("position 300 carries information");
+ */
+uint64_t spelt_describe(uint64_t a, uint64_t e, uint8_t *out, size_t out_len);
 
 #ifdef __cplusplus
 }

@@ -37,6 +37,24 @@ impl Layout {
     pub fn length(&self) -> usize {
         1 << self.n
     }
+
+    /// What a position is for: 1 information, 2 barred by puncturing, 3 by shortening, 0 frozen
+    /// otherwise, 4 not a position of this code.
+    pub fn role(&self, position: usize) -> u8 {
+        if self.chosen.contains(&position) {
+            1
+        } else if self.barred.contains(&position) {
+            match self.kind {
+                Kind::Repetition => unreachable!("repetition bars nothing"),
+                Kind::Puncturing => 2,
+                Kind::Shortening => 3,
+            }
+        } else if position < self.length() {
+            0
+        } else {
+            4
+        }
+    }
 }
 
 /// The layout for payload size `a` and coded length `e`; none if these are refused.

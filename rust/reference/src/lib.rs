@@ -141,6 +141,20 @@ pub fn loopback(
     decode(a, e, rnti, n_id, &noiseless(&coded, strengths), out)
 }
 
+/// Writes what each of the positions 0..511 is for into `out` and gives the number and the place.
+///
+/// On every number but 0, `out` is untouched.
+pub fn describe(a: u64, e: u64, out: &mut [u8]) -> (u8, usize) {
+    if let Some(number) = refused_lengths(a, e, &[], (out.len(), 512)) {
+        return (number, 0);
+    }
+    let layout = layout(a, e).expect("the sizes are accepted");
+    for (position, role) in out.iter_mut().enumerate() {
+        *role = layout.role(position);
+    }
+    (0, 0)
+}
+
 /// The noiseless row of coded bits with these strengths: positive for 0, negative for 1.
 pub fn noiseless(coded: &[u8], strengths: &[i32]) -> Vec<i32> {
     let value = |(&bit, &strength): (&u8, &i32)| if bit == 0 { strength } else { -strength };

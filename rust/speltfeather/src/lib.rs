@@ -1,6 +1,9 @@
 //! Channel coding of 5G NR downlink control information (DCI): TS 38.212 7.3.2 to 7.3.4 and
 //! TS 38.211 7.3.2.3, from payload bits to scrambled bits, and from soft values back to the payload.
 //!
+//! [`encode`], [`decode`] and [`loopback`] are the calls; [`Code`] tells what each position of a code
+//! is for.
+//!
 //! This is the safe face of the static library that is proved in Rattle. A bit is one byte, 0 or 1.
 //! Nothing is kept between calls, so they may run in several threads at once; nothing is allocated.
 
@@ -31,7 +34,7 @@ pub enum Refusal {
     TooManyBits,
     /// The payload's length is not A, or there are not E soft values or strengths.
     InputLength,
-    /// The output's length is not E (coding) or A (decoding and loop-back).
+    /// The output's length is not E (coding), A (decoding and loop-back) or 512 (describing a code).
     OutputLength,
     /// A payload byte is above 1, a soft value outside -127..127 or a strength outside 1..127; the
     /// first such entry stands at this place of the input.
@@ -108,6 +111,8 @@ unsafe extern "C" {
         out: *mut u8,
         out_len: usize,
     ) -> u64;
+
+    fn spelt_describe(a: u64, e: u64, out: *mut u8, out_len: usize) -> u64;
 }
 
 /// Codes `payload` into `out`: CRC, RNTI, input interleaver, polar code, rate matching, scrambling.
@@ -251,6 +256,148 @@ pub fn loopback(
     read(answer, 6)
 }
 
+/// Writes what each of the positions 0..511 of the code for `a` and `e` is for into `out`: 0 frozen,
+/// 1 information, 2 frozen because of puncturing, 3 because of shortening, 4 not a position of this
+/// code. [`Code`] is the same with names.
+///
+/// Any sizes and lengths may be handed in. On a refusal `out` is untouched.
+///
+/// ```
+/// use speltfeather::{Refusal, describe};
+///
+/// let mut out = [9; 512];
+/// describe(24, 108, &mut out)?;
+/// assert_eq!(out[107..129], [vec![1], vec![3; 20], vec![4]].concat());
+///
+/// assert_eq!(describe(24, 108, &mut out[1..]), Err(Refusal::OutputLength));
+/// assert_eq!(describe(85, 108, &mut out), Err(Refusal::TooManyBits));
+/// # Ok::<(), Refusal>(())
+/// ```
+///
+/// # Errors
+/// The first [`Refusal`] that applies; never [`Refusal::InputLength`], [`Refusal::BadEntry`] or
+/// [`Refusal::ParityMismatch`].
+pub fn describe(a: u64, e: u64, out: &mut [u8]) -> Result<(), Refusal> {
+    // SAFETY: the pointer comes from a slice, so it is not null and is valid for the length handed over.
+    let answer = unsafe { spelt_describe(a, e, out.as_mut_ptr(), out.len()) };
+    read(answer, 6)
+}
+
+/// What a position of a code is for.
+#[derive(Clone, Copy, Debug, PartialEq, Eq)]
+pub enum Role {
+    /// Frozen, since other positions are more reliable.
+    Frozen,
+    /// Carries a bit of payload or parity.
+    Information,
+    /// Frozen because of puncturing.
+    Punctured,
+    /// Frozen because of shortening.
+    Shortened,
+    /// Not a position of this code: not below N.
+    PastEnd,
+}
+
+impl Role {
+    fn of(byte: u8) -> Self {
+        match byte {
+            0 => Role::Frozen,
+            1 => Role::Information,
+            2 => Role::Punctured,
+            3 => Role::Shortened,
+            4 => Role::PastEnd,
+            _ => panic!("the library told the role {byte}, which it never does"),
+        }
+    }
+}
+
+/// How E coded bits are made of the N code bits.
+#[derive(Clone, Copy, Debug, PartialEq, Eq)]
+pub enum RateMatching {
+    /// E is at least N: code bits are sent again.
+    Repetition,
+    /// Code bits at the front of the sub-block order are not sent.
+    Puncturing,
+    /// Code bits at its end, known to be 0, are not sent.
+    Shortening,
+}
+
+/// The polar code for a payload size and a coded length, as the calls use it.
+///
+/// ```
+/// use speltfeather::{Code, RateMatching, Refusal, Role};
+///
+/// let code = Code::of(37, 432)?;
+/// assert_eq!((code.length(), code.kind()), (512, RateMatching::Puncturing));
+/// assert_eq!(code.information().count(), 37 + 24);
+///
+/// let code = Code::of(12, 108)?;
+/// assert!(code.barred().eq(0..=41));
+/// assert_eq!((code.roles().len(), code.roles()[127]), (128, Role::Information));
+///
+/// let code = Code::of(24, 108)?;
+/// assert_eq!(code.kind(), RateMatching::Shortening);
+/// assert!(code.barred().eq(108..128));
+///
+/// assert_eq!(Code::of(140, 864)?.kind(), RateMatching::Repetition);
+/// assert_eq!(Code::of(12, 107).unwrap_err(), Refusal::CodedLength);
+/// # Ok::<(), Refusal>(())
+/// ```
+#[derive(Clone, Debug, PartialEq, Eq)]
+pub struct Code {
+    roles: [Role; 512],
+}
+
+impl Code {
+    /// The code for payload size `a` and coded length `e`.
+    ///
+    /// # Errors
+    /// The first of [`Refusal::PayloadSize`], [`Refusal::CodedLength`] and [`Refusal::TooManyBits`]
+    /// that applies.
+    pub fn of(a: u64, e: u64) -> Result<Self, Refusal> {
+        let mut told = [0; 512];
+        describe(a, e, &mut told)?;
+        let roles = told.map(Role::of);
+        Ok(Self { roles })
+    }
+
+    /// The code length N.
+    pub fn length(&self) -> usize {
+        let past = |&role: &Role| role == Role::PastEnd;
+        self.roles.iter().position(past).unwrap_or(512)
+    }
+
+    /// How coded bits are made of code bits.
+    pub fn kind(&self) -> RateMatching {
+        if self.roles.contains(&Role::Punctured) {
+            RateMatching::Puncturing
+        } else if self.roles.contains(&Role::Shortened) {
+            RateMatching::Shortening
+        } else {
+            RateMatching::Repetition
+        }
+    }
+
+    /// What each position is for, N of them.
+    pub fn roles(&self) -> &[Role] {
+        &self.roles[..self.length()]
+    }
+
+    /// The positions that carry payload and parity, ascending: K of them.
+    pub fn information(&self) -> impl Iterator<Item = usize> {
+        self.positions(|role| role == Role::Information)
+    }
+
+    /// The positions that are frozen because of puncturing or shortening, ascending.
+    pub fn barred(&self) -> impl Iterator<Item = usize> {
+        self.positions(|role| matches!(role, Role::Punctured | Role::Shortened))
+    }
+
+    fn positions(&self, wanted: fn(Role) -> bool) -> impl Iterator<Item = usize> {
+        (0..512).filter(move |&position| wanted(self.roles[position]))
+    }
+}
+
 /// Takes apart an answer of the C interface: the number, which is at most `last` for the call that
 /// gave it, plus 256 times the place.
 fn read(answer: u64, last: u64) -> Result<(), Refusal> {
@@ -295,6 +442,12 @@ mod tests {
             .map(|n| read(n, 7).unwrap_err().to_string())
             .collect();
         assert_eq!(texts.len(), 7);
+    }
+
+    #[test]
+    #[should_panic(expected = "told the role 5")]
+    fn other_roles_are_not_taken() {
+        let _ = Role::of(5);
     }
 
     #[test]

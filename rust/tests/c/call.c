@@ -1,12 +1,15 @@
 /*
  * call numbers
+ * call roles
  * call encode   A E RNTI N_ID OUT_LEN PAYLOAD
  * call decode   A E RNTI N_ID OUT_LEN SOFT
  * call loopback A E RNTI N_ID OUT_LEN PAYLOAD STRENGTHS
+ * call describe A E RNTI N_ID OUT_LEN
  *
  * One call through the header, from C or C++. The last arguments are lists with
- * a comma behind each entry; the output starts as 9s. Prints the number, the
- * place and the output; or the numbers of the header in their order.
+ * a comma behind each entry; the output starts as 9s; describing takes no RNTI
+ * and no N_ID. Prints the number, the place and the output; or the numbers of
+ * the header in their order, or its roles and their count.
  */
 #include <stdio.h>
 #include <stdlib.h>
@@ -47,6 +50,13 @@ static int print_numbers(void)
     return 0;
 }
 
+static int print_roles(void)
+{
+    printf("%d %d %d %d %d %d\n", SPELT_FROZEN, SPELT_INFORMATION,
+           SPELT_PUNCTURED, SPELT_SHORTENED, SPELT_NONE, SPELT_ROLES);
+    return 0;
+}
+
 static int print_answer(uint64_t r, size_t out_len)
 {
     printf("%d %zu ", SPELT_NUMBER(r), SPELT_PLACE(r));
@@ -60,7 +70,9 @@ int main(int argc, char **argv)
 {
     if (argc == 2 && strcmp(argv[1], "numbers") == 0)
         return print_numbers();
-    if (argc < 8)
+    if (argc == 2 && strcmp(argv[1], "roles") == 0)
+        return print_roles();
+    if (argc < 7)
         return 2;
     uint64_t a = strtoull(argv[2], NULL, 10), e = strtoull(argv[3], NULL, 10);
     uint16_t rnti = (uint16_t)strtoul(argv[4], NULL, 10);
@@ -90,5 +102,7 @@ int main(int argc, char **argv)
                                            strengths_len, out, out_len),
                             out_len);
     }
+    if (argc == 7 && strcmp(argv[1], "describe") == 0)
+        return print_answer(spelt_describe(a, e, out, out_len), out_len);
     return 2;
 }

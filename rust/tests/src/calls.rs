@@ -179,6 +179,36 @@ impl Call for Loopback {
     }
 }
 
+/// Sizes whose code is to be described.
+#[derive(Clone, Debug)]
+pub struct Describe {
+    pub a: u64,
+    pub e: u64,
+    pub out: Vec<u8>,
+}
+
+impl Describe {
+    /// A call with an output of this length, which holds random bytes.
+    pub fn new(a: u64, e: u64, out_len: usize, random: &mut Random) -> Self {
+        let out = random.bytes(out_len);
+        Self { a, e, out }
+    }
+}
+
+impl Call for Describe {
+    fn out(&self) -> &[u8] {
+        &self.out
+    }
+
+    fn ask_library(&self, out: &mut [u8]) -> Result<(), Refusal> {
+        speltfeather::describe(self.a, self.e, out)
+    }
+
+    fn ask_reference(&self, out: &mut [u8]) -> (u8, usize) {
+        reference::describe(self.a, self.e, out)
+    }
+}
+
 /// Asserts that two threads which make calls of their own at once get what the reference gives.
 pub fn assert_threads_agree<C: Call>(rounds: usize, seed: u64, make: fn(&mut Random) -> C) {
     let start = Barrier::new(2);

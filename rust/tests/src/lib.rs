@@ -6,7 +6,7 @@ pub mod faults;
 pub mod rows;
 pub mod trials;
 
-pub use calls::{Call, Decode, Encode, Loopback, Outcome, assert_threads_agree};
+pub use calls::{Call, Decode, Describe, Encode, Loopback, Outcome, assert_threads_agree};
 pub use channel::Random;
 
 use speltfeather::Numbers;

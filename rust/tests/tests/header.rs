@@ -100,6 +100,12 @@ fn assert_loopback(program: &Path, a: u64, e: u64, inputs: (&[u8], &[i32]), out_
     );
 }
 
+fn assert_describe(program: &Path, a: u64, e: u64, out_len: usize) {
+    assert_call(program, "describe", (a, e, out_len), &[], |_, _, out| {
+        reference::describe(a, e, out)
+    });
+}
+
 const PAIRS: [(u64, u64); 5] = [(12, 108), (84, 108), (70, 216), (140, 432), (37, 1728)];
 
 fn assert_coding(program: &Path, random: &mut Random) {
@@ -154,14 +160,28 @@ fn assert_loopbacks(program: &Path, random: &mut Random) {
     assert_loopback(program, 40, 216, (&payload, &strengths), 40);
 }
 
+fn assert_describing(program: &Path) {
+    for (a, e) in PAIRS.into_iter().chain([(24, 108), (71, 216)]) {
+        assert_describe(program, a, e, 512);
+    }
+    assert_describe(program, u64::MAX, 216, 512);
+    assert_describe(program, 40, 217, 512);
+    assert_describe(program, 85, 108, 512);
+    assert_describe(program, 40, 216, 511);
+    assert_describe(program, 40, 216, 0);
+}
+
 fn assert_language(compiler: &str, language: &[&str], name: &str) {
     let program = build(compiler, language, name);
     let numbers = printed(&program, &["numbers".into()]);
     assert_eq!(numbers, "0 1 2 3 4 5 6 7\n");
+    let roles = printed(&program, &["roles".into()]);
+    assert_eq!(roles, "0 1 2 3 4 512\n");
     let mut random = Random::new(SEED);
     assert_coding(&program, &mut random);
     assert_decoding(&program, &mut random);
     assert_loopbacks(&program, &mut random);
+    assert_describing(&program);
 }
 
 #[test]
