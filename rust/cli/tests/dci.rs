@@ -16,7 +16,7 @@ struct Run {
     err: String,
 }
 
-fn dci_with(line: &str, input: &str) -> Run {
+fn dci(line: &str, input: &str) -> Run {
     let mut child = Command::new(env!("CARGO_BIN_EXE_dci"))
         .args(line.split_whitespace())
         .stdin(Stdio::piped())
@@ -38,20 +38,16 @@ fn dci_with(line: &str, input: &str) -> Run {
     }
 }
 
-fn dci(line: &str) -> Run {
-    dci_with(line, "")
-}
-
 /// What a run prints that must go well.
 fn printed(line: &str, input: &str) -> String {
-    let run = dci_with(line, input);
+    let run = dci(line, input);
     assert_eq!((run.status, &run.err[..]), (0, ""), "{line}");
     run.out
 }
 
 /// Asserts that a run prints nothing, ends with that status and says all of this.
 fn assert_refused(line: &str, input: &str, status: i32, said: &[&str]) {
-    let run = dci_with(line, input);
+    let run = dci(line, input);
     assert_eq!((run.status, &run.out[..]), (status, ""), "{line}");
     for words in said {
         assert!(run.err.contains(words), "{line}: {}", run.err);
@@ -260,4 +256,68 @@ fn the_answers_are_listed() {
         assert!(out.contains(&format!("\n{number}  ")) || out.starts_with(&format!("{number}  ")));
     }
     assert!(out.contains("SPELT_PARITY_MISMATCH") && out.contains("Refusal::BadEntry(place)"));
+}
+
+/// The row of `dci info` that starts with these words.
+fn row(table: &str, head: &str) -> String {
+    let line = table.lines().find(|line| line.starts_with(head));
+    line.unwrap_or_else(|| panic!("no {head} in {table}"))[head.len()..]
+        .trim()
+        .to_string()
+}
+
+#[test]
+fn codes_are_shown_as_document_01_has_them() {
+    // T1, T3, T8 and the repetitions of E = 864 and 1728.
+    let table = printed("info --size 12 --length 108 --as table", "");
+    assert_eq!(row(&table, "payload and parity K"), "36");
+    assert_eq!(row(&table, "code length N"), "128");
+    assert!(row(&table, "rate matching").starts_with("puncturing: 20 of 128"));
+    assert!(row(&table, "barred  ").starts_with("0-41"));
+    let table = printed("info --size 24 --length 108 --as table", "");
+    assert!(row(&table, "rate matching").starts_with("shortening: 20 of 128"));
+    assert_eq!(row(&table, "barred  "), "108-127");
+    let table = printed("info --size 140 --length 432 --as table", "");
+    assert_eq!(row(&table, "information positions"), "164");
+    assert!(row(&table, "barred  ").starts_with("0-167"));
+    for (e, sent) in [
+        (864, "352 of 512 code bits are sent twice, the others once"),
+        (
+            1728,
+            "192 of 512 code bits are sent 4 times, the others 3 times",
+        ),
+    ] {
+        let table = printed(&format!("info --size 40 --length {e}"), "");
+        assert_eq!(row(&table, "rate matching"), format!("repetition: {sent}"));
+        assert_eq!(row(&table, "barred  "), "none");
+    }
+}
+
+#[test]
+fn the_forms_of_a_code_agree() {
+    let strip = printed("info --size 37 --length 432 --as strip", "");
+    let cells = strip.lines().filter(|line| !line.contains("information"));
+    let cells: String = cells.flat_map(str::chars).collect();
+    let cells: Vec<char> = cells.chars().filter(|c| "█·×".contains(*c)).collect();
+    let csv = printed("info --size 37 --length 432 --as csv", "");
+    let listed: Vec<char> = csv
+        .lines()
+        .skip(1)
+        .map(|line| match line.split_once(',').expect("two columns").1 {
+            "information" => '█',
+            "frozen" => '·',
+            "barred" => '×',
+            other => panic!("{other}"),
+        })
+        .collect();
+    assert_eq!(cells, listed);
+    assert_eq!(cells.len(), 512);
+    assert_eq!(cells.iter().filter(|c| **c == '█').count(), 61);
+}
+
+#[test]
+fn sizes_that_are_refused_have_no_code() {
+    assert_refused("info --size 11 --length 108", "", 1, &["--size 11"]);
+    assert_refused("info --size 12 --length 109", "", 2, &["--length 109"]);
+    assert_refused("info --size 85 --length 108", "", 3, &["at most 84"]);
 }

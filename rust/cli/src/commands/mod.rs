@@ -3,6 +3,7 @@
 mod answers;
 mod decode;
 mod encode;
+mod info;
 
 use crate::failure::Failure;
 use crate::options::{Known, Options};
@@ -18,7 +19,12 @@ pub struct Command {
     pub run: fn(&Options, &mut dyn Write) -> Result<(), Failure>,
 }
 
-pub const COMMANDS: [Command; 3] = [encode::COMMAND, decode::COMMAND, answers::COMMAND];
+pub const COMMANDS: [Command; 4] = [
+    encode::COMMAND,
+    decode::COMMAND,
+    info::COMMAND,
+    answers::COMMAND,
+];
 
 /// The command of that name.
 pub fn find(name: &str) -> Option<&'static Command> {
