@@ -37,7 +37,7 @@
 enum { MOST = 2100, GUARD = 0x5A, STACK = 65536 };
 
 /* What a length must be. */
-enum length { NONE, SIZE_A, SIZE_E };
+enum length { NONE, SIZE_A, SIZE_E, ROLES };
 
 /* What is known of a call that is not refused. */
 enum known { NOTHING, GIVES_PAYLOAD, GIVES_MISMATCH };
@@ -88,10 +88,19 @@ static uint64_t loopback(const struct call *c, const uint8_t *payload,
                           values, c->values_len, out, c->out_len);
 }
 
+static uint64_t describe(const struct call *c, const uint8_t *payload,
+                         const int32_t *values, uint8_t *out)
+{
+    (void)payload;
+    (void)values;
+    return spelt_describe(c->a, c->e, out, c->out_len);
+}
+
 static struct kind kinds[] = {
-    {"encode", encode, SIZE_A, NONE, SIZE_E, 0, 5000, {0}},
+    {"encode", encode, SIZE_A, NONE, SIZE_E, 0, 3400, {0}},
     {"decode", decode, NONE, SIZE_E, SIZE_A, -127, 17000, {0}},
     {"loopback", loopback, SIZE_A, SIZE_E, SIZE_A, 1, 26000, {0}},
+    {"describe", describe, NONE, NONE, ROLES, 0, 2000, {0}},
 };
 
 enum { KINDS = sizeof kinds / sizeof *kinds };
@@ -171,7 +180,8 @@ static void fail(const struct call *c, const char *where, const char *why,
 
 static uint64_t asked(const struct call *c, enum length length)
 {
-    return length == SIZE_A ? c->a : length == SIZE_E ? c->e : 0;
+    const uint64_t of[] = {0, c->a, c->e, SPELT_ROLES};
+    return of[length];
 }
 
 /* The refusal that applies, 1 to 6 with its place; 0 if none does. */
@@ -200,10 +210,11 @@ static uint64_t refusal(const struct call *c)
     return SPELT_DONE;
 }
 
-static int are_bits(const uint8_t *bytes, size_t count)
+/* Bits, or what positions are for. */
+static int in_range(const struct kind *kind, const uint8_t *bytes, size_t count)
 {
     for (size_t i = 0; i < count; i++)
-        if (bytes[i] > 1)
+        if (bytes[i] > (kind->out == ROLES ? SPELT_NONE : 1))
             return 0;
     return 1;
 }
@@ -225,8 +236,8 @@ static const char *fault(const struct call *c, uint64_t r, const uint8_t *out)
         return "it must give the payload";
     if (r != 0 && memcmp(out, c->out, c->out_len) != 0)
         return "the output is written";
-    if (r == 0 && !are_bits(out, c->out_len))
-        return "the output is not of bits";
+    if (r == 0 && !in_range(c->kind, out, c->out_len))
+        return "the output is out of range";
     return NULL;
 }
 

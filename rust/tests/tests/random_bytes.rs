@@ -50,7 +50,7 @@ struct Subject {
     reference: fn(Inputs, &mut [u8]) -> (u8, usize),
 }
 
-const SUBJECTS: [Subject; 3] = [
+const SUBJECTS: [Subject; 4] = [
     Subject {
         name: "encode",
         given: &[0, 1, 2, 3, 4, 5, 6],
@@ -95,6 +95,18 @@ const SUBJECTS: [Subject; 3] = [
             let Numbers { a, e, rnti, n_id } = x.numbers;
             reference::loopback(a, e, rnti, n_id, x.payload, x.values, out)
         },
+    },
+    Subject {
+        name: "describe",
+        given: &[0, 1, 2, 3, 5],
+        asks: |_| Asked {
+            payload: None,
+            values: None,
+            out: 512,
+        },
+        values: |_, _, _| vec![],
+        library: |x, out| speltfeather::describe(x.numbers.a, x.numbers.e, out),
+        reference: |x, out| reference::describe(x.numbers.a, x.numbers.e, out),
     },
 ];
 
