@@ -10,11 +10,13 @@ use channel::Random;
 use contestants::{CODERS, Contestants, DECODERS, Message, assert_all_equal, to_code, to_decode};
 use std::fs;
 use std::process::Command;
-use timing::{ROUNDS, measured};
+use timing::{ROUNDS, better, measured};
 
 const SEED: u64 = 108;
 const PAYLOAD_SIZES: [u64; 3] = [12, 40, 84];
 const MESSAGES: usize = 16;
+/// How often each line of the table is come back to.
+const PASSES: usize = 4;
 
 /// Makes a message for a size and a length.
 type Make<T> = fn(u64, u64, &mut Random) -> Message<T>;
@@ -23,28 +25,56 @@ fn messages<T>(a: u64, e: u64, make: Make<T>, random: &mut Random) -> Vec<Messag
     (0..MESSAGES).map(|_| make(a, e, random)).collect()
 }
 
-fn print_table<T>(title: &str, contestants: &Contestants<T>, make: Make<T>) {
+/// The sizes of a line of the table, with messages of these sizes and their times.
+struct Line<T> {
+    a: u64,
+    e: u64,
+    messages: Vec<Message<T>>,
+    times: [f64; 4],
+}
+
+fn lines<T>(contestants: &Contestants<T>, make: Make<T>) -> Vec<Line<T>> {
+    let mut random = Random::new(SEED);
+    let sizes = PAYLOAD_SIZES.into_iter();
+    let sizes = sizes.flat_map(|a| reference::CODED_LENGTHS.map(|e| (a, e)));
+    let line = |(a, e)| {
+        let messages = messages(a, e, make, &mut random);
+        assert_all_equal(contestants, &messages);
+        let times = [f64::INFINITY; 4];
+        Line {
+            a,
+            e,
+            messages,
+            times,
+        }
+    };
+    sizes.map(line).collect()
+}
+
+/// Prints the table, and gives its lines.
+fn print_table<T>(title: &str, contestants: &Contestants<T>, make: Make<T>) -> Vec<Line<T>> {
+    let mut lines = lines(contestants, make);
+    for i in (0..PASSES).flat_map(|_| 0..PAYLOAD_SIZES.len() * reference::CODED_LENGTHS.len()) {
+        let line = &mut lines[i];
+        line.times = better(line.times, measured(contestants, &line.messages));
+    }
     println!("\n### {title}\n");
     println!(
         "|   A |    E | library, ns | C/16, ns | C/1, ns | second, ns \
          | library : C/16 | library : C/1 | second : library |"
     );
     println!("|----:|-----:|------:|------:|------:|------:|-----:|-----:|-----:|");
-    let mut random = Random::new(SEED);
-    for a in PAYLOAD_SIZES {
-        for e in reference::CODED_LENGTHS {
-            let messages = messages(a, e, make, &mut random);
-            assert_all_equal(contestants, &messages);
-            let [library, c1, c16, second] = measured(contestants, &messages);
-            println!(
-                "| {a:>3} | {e:>4} | {library:>6.0} | {c16:>6.0} | {c1:>6.0} | {second:>7.0} \
-                 | {:>5.2} | {:>5.2} | {:>5.1} |",
-                library / c16,
-                library / c1,
-                second / library
-            );
-        }
+    for Line { a, e, times, .. } in &lines {
+        let [library, c1, c16, second] = times;
+        println!(
+            "| {a:>3} | {e:>4} | {library:>6.0} | {c16:>6.0} | {c1:>6.0} | {second:>7.0} \
+             | {:>5.2} | {:>5.2} | {:>5.1} |",
+            library / c16,
+            library / c1,
+            second / library
+        );
     }
+    lines
 }
 
 /// The first line that a command prints, or that it cannot be run.
@@ -69,9 +99,11 @@ fn main() {
     println!("{}, {}", machine(), said("date", &["+%-d %B %Y"]));
     println!("{}", said("rt", &["version"]));
     println!("{}, -O3", said("cc", &["--version"]));
-    println!("best of {ROUNDS} rounds in which the contestants take turns; all give the same bits");
+    println!(
+        "best of {PASSES} x {ROUNDS} rounds in which the contestants take turns; all give the same bits"
+    );
     println!("C/1 and C/16: plain C with 1 or 16 terms of the Gold sequence at a time");
-    print_table("Coding", &CODERS, to_code);
-    print_table("Decoding", &DECODERS, to_decode);
-    profile::print();
+    let coding = print_table("Coding", &CODERS, to_code);
+    let decoding = print_table("Decoding", &DECODERS, to_decode);
+    profile::print(&coding, &decoding);
 }

@@ -1,21 +1,16 @@
 //! Where the library's time goes, for a payload of 40 bits.
 
-use crate::contestants::{CODERS, Contestants, DECODERS, Message, to_code, to_decode};
-use crate::timing::{measured, timed};
-use crate::{Make, SEED, messages, sampler};
-use channel::Random;
+use crate::contestants::{CODERS, Contestant, DECODERS};
+use crate::timing::timed;
+use crate::{Line, sampler};
 use reference::CODED_LENGTHS;
 
 const A: u64 = 40;
 /// How long the calls are watched for, in seconds.
 const SECONDS: f64 = 2.0;
 
-/// The functions of the archive that are not compiled into their callers.
-const STEPS: [&str; 3] = [
-    "construction::construct",
-    "scrambling::scramble",
-    "successive_decoder::decode",
-];
+/// The crates whose functions the compiler does not put into their callers, or not all of them.
+const STEPS: [&str; 3] = ["construction::", "scrambling::", "successive_decoder::"];
 
 /// Nanoseconds of a call: all, and those in each step.
 struct Spent {
@@ -23,22 +18,22 @@ struct Spent {
     steps: [f64; 3],
 }
 
-pub fn print() {
-    let coding = spent_by_length(&CODERS, to_code);
-    let decoding = spent_by_length(&DECODERS, to_decode);
+pub fn print(coding: &[Line<u8>], decoding: &[Line<i32>]) {
+    let coding = spent_by_length(CODERS[0], coding);
+    let decoding = spent_by_length(DECODERS[0], decoding);
     // Both run the same scrambler; in coding it has the larger share.
     let start = start(&coding);
     print_table("Where coding spends its time", &coding, start);
     print_table("Where decoding spends its time", &decoding, start);
 }
 
-fn spent_by_length<T>(contestants: &Contestants<T>, make: Make<T>) -> [Spent; 5] {
-    let mut random = Random::new(SEED);
-    CODED_LENGTHS.map(|e| spent(contestants, &messages(A, e, make, &mut random)))
+fn spent_by_length<T>(library: Contestant<T>, lines: &[Line<T>]) -> Vec<Spent> {
+    let lines = lines.iter().filter(|line| line.a == A);
+    lines.map(|line| spent(library, line)).collect()
 }
 
 /// What scrambling takes whatever E is: where the straight line nearest to the five times starts.
-fn start(spent: &[Spent; 5]) -> f64 {
+fn start(spent: &[Spent]) -> f64 {
     let mean = |values: [f64; 5]| values.iter().sum::<f64>() / 5.0;
     let lengths = CODED_LENGTHS.map(|e| e as f64);
     let times = [0, 1, 2, 3, 4].map(|i| spent[i].steps[1]);
@@ -48,10 +43,10 @@ fn start(spent: &[Spent; 5]) -> f64 {
     time - slope * e
 }
 
-fn print_table(title: &str, spent: &[Spent; 5], start: f64) {
+fn print_table(title: &str, spent: &[Spent], start: f64) {
     println!("\n### {title}\n");
     println!(
-        "|    E | all, ns | positions | scrambler start | its E terms | decoder | everything else |"
+        "|    E | all, ns | marking positions | scrambler start | its E terms | decoder | all else |"
     );
     println!("|-----:|-----:|-----:|-----:|-----:|-----:|-----:|");
     for (e, Spent { all, steps }) in CODED_LENGTHS.into_iter().zip(spent) {
@@ -63,11 +58,11 @@ fn print_table(title: &str, spent: &[Spent; 5], start: f64) {
     }
 }
 
-fn spent<T>(contestants: &Contestants<T>, messages: &[Message<T>]) -> Spent {
-    let all = measured(contestants, messages)[0];
+fn spent<T>(library: Contestant<T>, line: &Line<T>) -> Spent {
+    let all = line.times[0];
     let calls = (SECONDS * 1e9 / all) as usize;
     let shares = sampler::shares(STEPS, || {
-        timed(contestants[0], messages, calls);
+        timed(library, &line.messages, calls);
     });
     let steps = shares.map(|share| share * all);
     Spent { all, steps }

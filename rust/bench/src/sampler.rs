@@ -1,7 +1,6 @@
 //! Where the time goes inside the archive: a timer interrupts the calls, and the place where each
 //! interruption fell is looked up among the archive's functions. For Linux on x86-64.
 
-use std::collections::HashMap;
 use std::ffi::c_void;
 use std::ops::Range;
 use std::process::Command;
@@ -75,39 +74,41 @@ fn interrupted(work: impl FnOnce()) -> Vec<u64> {
     places.map(|place| place.load(Ordering::Relaxed)).collect()
 }
 
-/// Where the archive's functions lie in memory, found by `nm` in this program's own file.
-fn functions<const N: usize>(names: [&str; N]) -> [Range<u64>; N] {
+/// Where the functions of each crate lie in memory, found by `nm` in this program's own file. What
+/// the compiler has put into a caller lies there.
+fn functions<const N: usize>(crates: [&str; N]) -> [Vec<Range<u64>>; N] {
     let own = std::env::current_exe().expect("this program has a file");
-    let listed = Command::new("nm")
-        .args(["-S", "--defined-only"])
-        .arg(own)
-        .output();
+    let mut nm = Command::new("nm");
+    let listed = nm.args(["-S", "--defined-only"]).arg(own).output();
     let listed = listed.expect("nm can be run").stdout;
     let listed = String::from_utf8_lossy(&listed);
-    let found: HashMap<&str, (u64, u64)> = listed.lines().filter_map(symbol).collect();
-    let here = spelt_encode as *const () as u64;
-    let moved = here - found["spelt_encode"].0;
-    names.map(|name| {
-        let listed = found.get(name);
-        let &(start, size) = listed.unwrap_or_else(|| panic!("nm lists no {name}"));
-        start + moved..start + moved + size
+    let symbols: Vec<(&str, u64, u64)> = listed.lines().filter_map(symbol).collect();
+    let start_of = |name| symbols.iter().find(|symbol| symbol.0 == name);
+    let (_, start, _) = start_of("spelt_encode").expect("the archive is linked");
+    let moved = spelt_encode as *const () as u64 - start;
+    crates.map(|name| {
+        let inside = symbols.iter().filter(|symbol| symbol.0.starts_with(name));
+        let ranges = inside.map(|(_, start, size)| start + moved..start + moved + size);
+        let ranges: Vec<Range<u64>> = ranges.collect();
+        assert!(!ranges.is_empty(), "nm lists nothing of {name}");
+        ranges
     })
 }
 
 /// A line of `nm -S`: address, size, letter, name.
-fn symbol(line: &str) -> Option<(&str, (u64, u64))> {
+fn symbol(line: &str) -> Option<(&str, u64, u64)> {
     let mut words = line.splitn(4, ' ');
     let address = u64::from_str_radix(words.next()?, 16).ok()?;
     let size = u64::from_str_radix(words.next()?, 16).ok()?;
     let name = words.nth(1)?;
-    Some((name, (address, size)))
+    Some((name, address, size))
 }
 
-/// The part of the time that was spent in each of these functions of the archive.
-pub fn shares<const N: usize>(names: [&str; N], work: impl FnOnce()) -> [f64; N] {
+/// The part of the time that was spent in the functions of each of these crates.
+pub fn shares<const N: usize>(crates: [&str; N], work: impl FnOnce()) -> [f64; N] {
     let places = interrupted(work);
-    functions(names).map(|function| {
-        let inside = places.iter().filter(|place| function.contains(place));
-        inside.count() as f64 / places.len() as f64
+    functions(crates).map(|functions| {
+        let inside = |place: &&u64| functions.iter().any(|function| function.contains(place));
+        places.iter().filter(inside).count() as f64 / places.len() as f64
     })
 }
