@@ -1,11 +1,42 @@
 //! Channel coding of 5G NR downlink control information (DCI): TS 38.212 7.3.2 to 7.3.4 and
 //! TS 38.211 7.3.2.3, from payload bits to scrambled bits, and from soft values back to the payload.
 //!
-//! [`encode`], [`decode`] and [`loopback`] are the calls; [`Code`] tells what each position of a code
-//! is for.
-//!
 //! This is the safe face of the static library that is proved in Rattle. A bit is one byte, 0 or 1.
 //! Nothing is kept between calls, so they may run in several threads at once; nothing is allocated.
+//!
+//! ```
+//! use speltfeather::{Numbers, Refusal, decode, encode};
+//!
+//! let numbers = Numbers { a: 40, e: 216, rnti: 0x4601, n_id: 500 };
+//! let payload = [1; 40];
+//! let mut coded = [0; 216];
+//! encode(&numbers, &payload, &mut coded)?;
+//!
+//! // A receiver has soft values: positive leans to bit 0, negative to bit 1.
+//! let soft = coded.map(|bit| if bit == 0 { 20 } else { -20 });
+//! let mut read = [0; 40];
+//! decode(&numbers, &soft, &mut read)?;
+//! assert_eq!(read, payload);
+//! # Ok::<(), Refusal>(())
+//! ```
+//!
+//! # Answers
+//!
+//! Any numbers, lengths and contents may be handed in. The conditions are tested in this order, and
+//! the first that applies is given; on every answer but `Ok(())` the output holds what it held.
+//!
+//! | number | answer | given when |
+//! |---|---|---|
+//! | 0 | `Ok(())` | done: the output holds E bits ([`encode`]), A bits ([`decode`], [`loopback`]) or 512 roles ([`describe`]) |
+//! | 1 | [`Refusal::PayloadSize`] | the payload size A is outside 12..140 |
+//! | 2 | [`Refusal::CodedLength`] | the coded length E is not among 108, 216, 432, 864, 1728 |
+//! | 3 | [`Refusal::TooManyBits`] | A + 24 is more than E |
+//! | 4 | [`Refusal::InputLength`] | the payload's length is not A, or there are not E soft values or strengths |
+//! | 5 | [`Refusal::OutputLength`] | the output's length is not E ([`encode`]), A ([`decode`], [`loopback`]) or 512 ([`describe`]) |
+//! | 6 | [`Refusal::BadEntry`] | a payload byte above 1, a soft value outside -127..127 or a strength outside 1..127; carries the place of the first |
+//! | 7 | [`Refusal::ParityMismatch`] | decoding ran, and the parity does not match; from [`decode`] alone |
+//!
+//! [`describe`], and [`Code`] over it, tell what each position of a code is for.
 
 use std::error::Error;
 use std::fmt;
@@ -397,6 +428,11 @@ impl Code {
         (0..512).filter(move |&position| wanted(self.roles[position]))
     }
 }
+
+/// README's program is a test as well.
+#[cfg(doctest)]
+#[doc = include_str!("../../../README.md")]
+struct Readme;
 
 /// Takes apart an answer of the C interface: the number, which is at most `last` for the call that
 /// gave it, plus 256 times the place.
