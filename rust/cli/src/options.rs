@@ -3,32 +3,53 @@
 use crate::failure::Failure;
 use speltfeather::Numbers;
 
-/// An option, and what its value must be.
+/// An option, what its value must be, and its lines of the help.
 #[derive(Debug)]
 pub struct Known {
     pub name: &'static str,
     pub expected: &'static str,
+    pub help: &'static str,
 }
 
 pub const SIZE: Known = Known {
     name: "--size",
     expected: "the payload size in bits, 12 to 140",
+    help: "\
+--size A      payload size in bits, 12 to 140; the 24 parity bits are not
+                counted
+",
 };
 pub const LENGTH: Known = Known {
     name: "--length",
     expected: "the coded length in bits: 108, 216, 432, 864 or 1728",
+    help: "\
+--length E    coded length in bits: 108, 216, 432, 864 or 1728 (aggregation
+                level 1, 2, 4, 8 or 16)
+",
 };
 pub const RNTI: Known = Known {
     name: "--rnti",
     expected: "the radio number, 0 to 65535, such as 65535 or 0xffff",
+    help: "\
+--rnti R      radio number (RNTI), 0 to 65535: decimal, or hexadecimal after
+                0x
+",
 };
 pub const ID: Known = Known {
     name: "--id",
     expected: "the scrambling identity, 0 to 65535",
+    help: "\
+--id N        scrambling identity n_ID, 0 to 65535
+",
 };
 pub const PAYLOAD: Known = Known {
     name: "--payload",
     expected: "the payload, in bits or in hexadecimal digits",
+    help: "\
+--payload P   the payload, first bit first: A bits, or hexadecimal digits, as
+                many as A bits fill, with zeros behind the last bit. 0b or 0x in
+                front says which; _ may stand between digits
+",
 };
 
 /// What stood on the command line.
@@ -43,12 +64,12 @@ impl Options {
     ///
     /// # Errors
     /// An option that is not known, stands twice or has no value; a second operand.
-    pub fn read(known: &[&Known], operands: usize, words: &[String]) -> Result<Self, Failure> {
+    pub fn read(known: &[&Known], has_operand: bool, words: &[String]) -> Result<Self, Failure> {
         let mut options = Self::default();
         let mut words = words.iter();
         while let Some(word) = words.next() {
             if word == "-" || !word.starts_with('-') {
-                options.take_operand(operands, word)?;
+                options.take_operand(has_operand, word)?;
                 continue;
             }
             let (name, inline) = match word.split_once('=') {
@@ -75,9 +96,9 @@ impl Options {
         Ok(())
     }
 
-    fn take_operand(&mut self, operands: usize, word: &str) -> Result<(), Failure> {
-        if usize::from(self.operand.is_some()) == operands {
-            let expected = ["no file", "one file"][operands];
+    fn take_operand(&mut self, has_operand: bool, word: &str) -> Result<(), Failure> {
+        if !has_operand || self.operand.is_some() {
+            let expected = if has_operand { "one file" } else { "no file" };
             return Err(Failure::Usage(format!("`{word}`: expected {expected}")));
         }
         self.operand = Some(word.to_string());

@@ -44,15 +44,15 @@ fn run(words: &[String], out: &mut dyn Write) -> Result<(), Failure> {
         }
         ["help" | "--help" | "-h"] => Ok(show_help(out)?),
         ["--version" | "-V"] => Ok(writeln!(out, "dci {}", env!("CARGO_PKG_VERSION"))?),
-        ["help", name] => Ok(write!(out, "{}", command(name)?.help)?),
+        ["help", name] => Ok(write!(out, "{}", command(name)?.help())?),
         ["help", ..] => Err(Failure::Usage("help: expected one command".into())),
         [name, rest @ ..] if rest.iter().any(|word| ["--help", "-h"].contains(word)) => {
-            Ok(write!(out, "{}", command(name)?.help)?)
+            Ok(write!(out, "{}", command(name)?.help())?)
         }
         [name, rest @ ..] => {
             let command = command(name)?;
             let rest: Vec<String> = rest.iter().map(ToString::to_string).collect();
-            let options = Options::read(command.options, command.operands, &rest)?;
+            let options = Options::read(command.options, command.operand.is_some(), &rest)?;
             (command.run)(&options, out)
         }
     }

@@ -21,6 +21,7 @@ const MESSAGES: usize = 1000;
 const SEED: u64 = 1;
 
 fn main() {
+    println!("Speltfeather: 5G downlink control messages (DCI), coded and read back\n");
     let payload = recorded();
     let coded = show_coding(&payload);
     show_noise(&payload, &coded);

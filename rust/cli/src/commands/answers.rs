@@ -9,17 +9,13 @@ use std::io::Write;
 pub const COMMAND: Command = Command {
     name: "answers",
     summary: "lists the numbers that the calls give back",
-    help: "\
-dci answers - lists the numbers that the calls give back, what they mean, and
-their names in C and Rust
-
-usage: dci answers
-
+    usage: "",
+    notes: "\
 The numbers are tested in their order, and the first that applies is given. On
 every number but 0 the output buffer holds what it held before the call.
 ",
     options: &[],
-    operands: 0,
+    operand: None,
     run,
 };
 

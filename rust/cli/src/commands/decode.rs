@@ -13,29 +13,19 @@ use std::io::{self, Read, Write};
 const AS: Known = Known {
     name: "--as",
     expected: "hex or bits",
+    help: "\
+--as FORM     how to print the payload, first bit first:
+                hex    hexadecimal digits with zeros behind the last bit, the
+                       default
+                bits   digits 0 and 1
+",
 };
 
 pub const COMMAND: Command = Command {
     name: "decode",
     summary: "reads a payload from E soft values and checks its parity",
-    help: "\
-dci decode - reads a payload from E soft values and checks its parity
-
-usage: dci decode --size A --length E --rnti R --id N [--as FORM] [FILE]
-
-  --size A      payload size in bits, 12 to 140; the 24 parity bits are not
-                counted
-  --length E    coded length in bits: 108, 216, 432, 864 or 1728 (aggregation
-                level 1, 2, 4, 8 or 16)
-  --rnti R      radio number (RNTI), 0 to 65535: decimal, or hexadecimal after
-                0x
-  --id N        scrambling identity n_ID, 0 to 65535
-  --as FORM     how to print the payload, first bit first:
-                hex    hexadecimal digits with zeros behind the last bit, the
-                       default
-                bits   digits 0 and 1
-  FILE          the soft values; standard input if there is none, or -
-
+    usage: "--size A --length E --rnti R --id N [--as FORM] [FILE]",
+    notes: "\
 A soft value is a whole number from -127 to 127 for each coded bit, in the order
 in which they are sent and still scrambled: positive leans to bit 0, negative to
 bit 1, 0 says nothing. They stand between spaces, commas or new lines; # starts
@@ -51,7 +41,7 @@ exit status: 0 if the payload was accepted; the answer's number, 1 to 7, if not
 line is wrong; 66 if the soft values cannot be read
 ",
     options: &[&SIZE, &LENGTH, &RNTI, &ID, &AS],
-    operands: 1,
+    operand: Some("FILE          the soft values; standard input if there is none, or -\n"),
     run,
 };
 

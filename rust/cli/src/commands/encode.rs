@@ -11,32 +11,20 @@ use std::io::Write;
 const AS: Known = Known {
     name: "--as",
     expected: "hex, bits, strip or soft",
+    help: "\
+--as FORM     how to print the coded bits, first bit first:
+                hex    hexadecimal digits, the default
+                bits   digits 0 and 1
+                strip  a picture, 64 bits in a line
+                soft   soft values without noise, as `dci decode` reads them
+",
 };
 
 pub const COMMAND: Command = Command {
     name: "encode",
     summary: "codes a payload into E scrambled bits",
-    help: "\
-dci encode - codes a payload into E scrambled bits
-
-usage: dci encode --size A --length E --rnti R --id N --payload P [--as FORM]
-
-  --size A      payload size in bits, 12 to 140; the 24 parity bits are not
-                counted
-  --length E    coded length in bits: 108, 216, 432, 864 or 1728 (aggregation
-                level 1, 2, 4, 8 or 16)
-  --rnti R      radio number (RNTI), 0 to 65535: decimal, or hexadecimal after
-                0x
-  --id N        scrambling identity n_ID, 0 to 65535
-  --payload P   the payload, first bit first: A bits, or hexadecimal digits, as
-                many as A bits fill, with zeros behind the last bit. 0b or 0x in
-                front says which; _ may stand between digits
-  --as FORM     how to print the coded bits, first bit first:
-                hex    hexadecimal digits, the default
-                bits   digits 0 and 1
-                strip  a picture, 64 bits in a line
-                soft   soft values without noise, as `dci decode` reads them
-
+    usage: "--size A --length E --rnti R --id N --payload P [--as FORM]",
+    notes: "\
 example: the message that announces SIB1
   dci encode --size 37 --length 432 --rnti 0xffff --id 1 --payload 5400a00000
 
@@ -45,7 +33,7 @@ refused (`dci answers` lists them); 64 if the command line is wrong; 66 if the
 output cannot be written
 ",
     options: &[&SIZE, &LENGTH, &RNTI, &ID, &PAYLOAD, &AS],
-    operands: 0,
+    operand: None,
     run,
 };
 

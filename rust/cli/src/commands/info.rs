@@ -11,27 +11,20 @@ use std::io::Write;
 const AS: Known = Known {
     name: "--as",
     expected: "both, table, strip or csv",
+    help: "\
+--as FORM     what to print:
+                both   the table and then the strip, the default
+                table  the numbers, and the positions as ranges
+                strip  a picture, 64 positions in a line
+                csv    a line for each position: its number and what it is
+",
 };
 
 pub const COMMAND: Command = Command {
     name: "info",
     summary: "shows the code of a size and a length: K, N, kind and positions",
-    help: "\
-dci info - shows the code of a payload size and a coded length: K, N, the kind
-of rate matching, and what each position carries
-
-usage: dci info --size A --length E [--as FORM]
-
-  --size A      payload size in bits, 12 to 140; the 24 parity bits are not
-                counted
-  --length E    coded length in bits: 108, 216, 432, 864 or 1728 (aggregation
-                level 1, 2, 4, 8 or 16)
-  --as FORM     what to print:
-                both   the table and then the strip, the default
-                table  the numbers, and the positions as ranges
-                strip  a picture, 64 positions in a line
-                csv    a line for each position: its number and what it is
-
+    usage: "--size A --length E [--as FORM]",
+    notes: "\
 A position is one of the N inputs of the polar transform. An information
 position carries a bit of payload or parity. A barred one is frozen because of
 rate matching (38.212 5.4.1.1), and any other is frozen because more reliable
@@ -44,7 +37,7 @@ exit status: 0 if the sizes are accepted; the answer's number, 1 to 3, if not
 cannot be written
 ",
     options: &[&SIZE, &LENGTH, &AS],
-    operands: 0,
+    operand: None,
     run,
 };
 
