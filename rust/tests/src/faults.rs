@@ -102,3 +102,8 @@ pub fn too_many_bits(fine: u8) -> Vec<Pair> {
     sized.push((140, 216, fine));
     sized
 }
+
+/// All of these.
+pub fn sizes(fine: u8) -> Vec<Pair> {
+    [payload_sizes(fine), coded_lengths(), too_many_bits(fine)].concat()
+}

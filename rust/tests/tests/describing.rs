@@ -40,12 +40,7 @@ fn every_code_has_the_layout_of_the_reference() {
 #[test]
 fn sizes() {
     let mut random = Random::new(SEED);
-    let pairs = [
-        faults::payload_sizes(0),
-        faults::coded_lengths(),
-        faults::too_many_bits(0),
-    ];
-    for (a, e, number) in pairs.concat() {
+    for (a, e, number) in faults::sizes(0) {
         Describe::new(a, e, 512, &mut random).expect(number, 0);
     }
 }

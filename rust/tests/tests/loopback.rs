@@ -67,12 +67,7 @@ fn expect_sizes(a: u64, e: u64, number: u8, random: &mut Random) {
 #[test]
 fn sizes() {
     let mut random = Random::new(SEED);
-    let pairs = [
-        faults::payload_sizes(0),
-        faults::coded_lengths(),
-        faults::too_many_bits(0),
-    ];
-    for (a, e, number) in pairs.concat() {
+    for (a, e, number) in faults::sizes(0) {
         expect_sizes(a, e, number, &mut random);
     }
 }
