@@ -5,6 +5,14 @@
 use channel::{Channel, Random};
 use cli::{answers, picture, text};
 use speltfeather::{Numbers, Refusal, decode, encode, loopback};
+use std::io::{self, Write};
+
+/// Prints a line. That nobody reads on, as after `| head`, is no error.
+macro_rules! say {
+    ($($text:tt)*) => {
+        let _ = writeln!(io::stdout(), $($text)*);
+    };
+}
 
 /// The fields of the recorded message: value and width, most significant bit first.
 const FIELDS: [(u32, u32); 7] = [(168, 9), (0, 4), (0, 1), (5, 5), (0, 2), (0, 1), (0, 15)];
@@ -21,13 +29,13 @@ const MESSAGES: usize = 1000;
 const SEED: u64 = 1;
 
 fn main() {
-    println!("Speltfeather: 5G downlink control messages (DCI), coded and read back\n");
+    say!("Speltfeather: 5G downlink control messages (DCI), coded and read back\n");
     let payload = recorded();
     let coded = show_coding(&payload);
     show_noise(&payload, &coded);
     show_refusals(&payload, &coded);
     show_self_test();
-    println!(
+    say!(
         "\nTry it: `make dci`, then `dci help`. The curves: docs/BLER.md. The proofs: docs/PROOFS.md."
     );
 }
@@ -38,25 +46,25 @@ fn recorded() -> Vec<u8> {
 }
 
 fn show_coding(payload: &[u8]) -> Vec<u8> {
-    println!("1. Coding: the message that announces SIB1, 37 bits, RNTI ffff, identity 1\n");
-    println!("   payload  {}", text::digits(payload));
-    println!("            {} in hexadecimal digits", text::hex(payload));
+    say!("1. Coding: the message that announces SIB1, 37 bits, RNTI ffff, identity 1\n");
+    say!("   payload  {}", text::digits(payload));
+    say!("            {} in hexadecimal digits", text::hex(payload));
     let mut coded = vec![0; 432];
     encode(&NUMBERS, payload, &mut coded).expect("the numbers are accepted");
-    println!("   answer   0, and 432 bits:\n");
+    say!("   answer   0, and 432 bits:\n");
     for line in text::hex(&coded).as_bytes().chunks(54) {
-        println!("       {}", String::from_utf8_lossy(line));
+        say!("       {}", String::from_utf8_lossy(line));
     }
-    println!();
+    say!();
     for line in picture::strip(coded.iter().map(|&bit| picture::bit(bit))) {
-        println!("{line}");
+        say!("{line}");
     }
     coded
 }
 
 fn show_noise(payload: &[u8], coded: &[u8]) {
-    println!("\n2. Through white noise and back, QPSK, {MESSAGES} times at each strength\n");
-    println!("      SNR   signs wrong   the first one's answer                 read");
+    say!("\n2. Through white noise and back, QPSK, {MESSAGES} times at each strength\n");
+    say!("      SNR   signs wrong   the first one's answer                 read");
     let mut random = Random::new(SEED);
     for snr in STRENGTHS {
         let channel = Channel::at(snr);
@@ -66,7 +74,7 @@ fn show_noise(payload: &[u8], coded: &[u8]) {
         let read = rows.iter().filter(|soft| reads(payload, soft)).count();
         let signs = rows[0].iter().zip(coded);
         let wrong = signs.filter(|&(&v, &bit)| (v < 0) != (bit == 1)).count();
-        println!(
+        say!(
             "   {snr:>+4.0} dB   {wrong:>3} of 432    {:<36} {read:>4} of {MESSAGES}",
             answered(&NUMBERS, &rows[0])
         );
@@ -89,7 +97,7 @@ fn answered(numbers: &Numbers, soft: &[i32]) -> String {
 }
 
 fn show_refusals(payload: &[u8], coded: &[u8]) {
-    println!("\n3. Refused: each call leaves its output buffer as it was\n");
+    say!("\n3. Refused: each call leaves its output buffer as it was\n");
     let mut bad = payload.to_vec();
     bad[5] = 2;
     let mut out = vec![9; 432];
@@ -121,7 +129,7 @@ fn show_refusal(call: &str, answer: Result<(), Refusal>) {
         _ => String::new(),
     };
     let meaning = answers::meaning(refusal).split([';', ':']).next();
-    println!(
+    say!(
         "   {call:<25} {}{place}: {}",
         refusal.number(),
         meaning.unwrap_or_default()
@@ -130,7 +138,7 @@ fn show_refusal(call: &str, answer: Result<(), Refusal>) {
 
 /// Demand 3 on one message for each accepted pair of sizes, with strengths from 1 to 127.
 fn show_self_test() {
-    println!("\n4. Self-test: coded, given uneven strengths, and read back\n");
+    say!("\n4. Self-test: coded, given uneven strengths, and read back\n");
     let mut random = Random::new(SEED);
     let lengths = [108, 216, 432, 864, 1728];
     let pairs = lengths
@@ -146,5 +154,5 @@ fn show_self_test() {
         assert_eq!(out, payload, "promise 3");
         passed += 1;
     }
-    println!("   {passed} pairs of size and length: each gave 0 and its payload");
+    say!("   {passed} pairs of size and length: each gave 0 and its payload");
 }
