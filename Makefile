@@ -1,3 +1,4 @@
+# make help          this list
 # make demo          proves and builds the library, codes a message, sends it through noise, reads it back
 # make test          the gate: all proofs from nothing, the edits that must be refused, then the library's tests
 # make lib           the archive, target/staticlib/libspeltfeather.a
@@ -12,7 +13,7 @@ SHELL := bash
 .SHELLFLAGS := -euo pipefail -c
 .ONESHELL:
 .DELETE_ON_ERROR:
-.PHONY: lib demo test dci install uninstall robust long bench bler false-alarms
+.PHONY: lib help demo test dci install uninstall robust long bench bler false-alarms
 
 PREFIX ?= /usr/local
 VERSION := $(shell sed -n 's/^version = "\(.*\)"/\1/p' rust/Cargo.toml)
@@ -27,6 +28,9 @@ $(ARCHIVE): crates.txt $(shell find crates -name '*.rt' -o -name '*.antt')
 	mkdir -p target
 	(rt check speltfeather && rt staticlib speltfeather) 2>&1 | tee target/lib.log | grep --line-buffered '^rt:' ||
 	  { cat target/lib.log; exit 1; }
+
+help:
+	@sed -n 's/^# make/make/p' Makefile
 
 demo: lib
 	@cd rust

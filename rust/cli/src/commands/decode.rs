@@ -8,7 +8,7 @@ use crate::soft::{self, Soft};
 use crate::text;
 use speltfeather::{Numbers, Refusal};
 use std::fs;
-use std::io::{self, Read, Write};
+use std::io::{self, IsTerminal, Read, Write};
 
 const AS: Known = Known {
     name: "--as",
@@ -67,17 +67,23 @@ fn run(options: &Options, out: &mut dyn Write) -> Result<(), Failure> {
 /// The soft values of a file, or of standard input.
 fn read(file: Option<&str>) -> Result<Vec<Soft>, Failure> {
     let (source, bytes) = match file {
-        None | Some("-") => {
-            let mut bytes = Vec::new();
-            let read = io::stdin().lock().read_to_end(&mut bytes);
-            ("standard input", read.map(|_| bytes))
-        }
+        None | Some("-") => ("standard input", read_standard_input()),
         Some(path) => (path, fs::read(path)),
     };
     let bytes = bytes.map_err(|error| {
         Failure::File(format!("{source}: expected a file of soft values: {error}"))
     })?;
     soft::read(&String::from_utf8_lossy(&bytes), source)
+}
+
+fn read_standard_input() -> io::Result<Vec<u8>> {
+    let mut input = io::stdin().lock();
+    if input.is_terminal() {
+        eprintln!("dci decode: reading soft values from the keyboard; end them with Ctrl-D");
+    }
+    let mut bytes = Vec::new();
+    input.read_to_end(&mut bytes)?;
+    Ok(bytes)
 }
 
 fn explained(refusal: Refusal, numbers: &Numbers, soft: &[Soft]) -> String {
