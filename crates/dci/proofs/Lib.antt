@@ -1,7 +1,6 @@
--- Laws of the ranges, of coding and decoding from their steps, and of the self-test.
+-- Laws of the ranges, and of coding, decoding and describing from their steps.
 pub mod Ranges
 pub mod Made
 pub mod Outcomes
 pub mod Judging
-pub mod Looping
 pub mod Telling

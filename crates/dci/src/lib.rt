@@ -14,12 +14,9 @@ ghost use Rattle.nr.specs.Interleaver.{deinterleave};
 ghost use Rattle.nr.specs.Scrambling.{cInit};
 ghost use Rattle.nr.specs.Coding.{coded, coding};
 ghost use Rattle.nr.specs.Decoding.{decided, decoding};
-ghost use Rattle.nr.specs.Loopback.{looped};
 ghost use Rattle.nr.specs.Describing.{describing};
 ghost use Rattle.nr.proofs.Ints.{Within};
-ghost use Rattle.nr.proofs.Loopback.{Loops};
 ghost use Rattle.dci.specs.Judged.{judged};
-ghost use Rattle.dci.specs.Loops.{signed, found};
 
 // The E scrambled bits of a payload of A bits.
 fn write(numbers: Numbers, payload: &[u8], out: &mut [u8])
@@ -117,56 +114,6 @@ pub fn decode(numbers: Numbers, soft: &[i32], out: &mut [u8]) -> Decoded
     }
     let answer = accept(numbers, soft, out);
     Decoded { answer }
-}
-
-// A noiseless row for the payload: each coded bit with its sign and the caller's strength.
-fn sign(numbers: Numbers, payload: &[u8], strengths: &[i32], soft: &mut [i32])
-    requires { ⌜ (length (now strengths) ≡ numbers .e) × (length (now soft) ≡ numbers .e) × (numbers .e ≤ 1728) × Within 127 (now strengths) ⌝ }
-    ensures { λ _. ⌜ now (soft .exit) ≡ signed numbers (now (payload .entry)) (now (strengths .entry)) ⌝ }
-{
-    let e = strengths.len();
-    let mut sent = [0u8; 1728];
-    encode(numbers, payload, &mut sent[..e]);
-    scrambling::negate(&sent[..e], strengths, soft);
-}
-
-// Codes the payload and decodes its noiseless row: demand 3, run.
-fn through(numbers: Numbers, payload: &[u8], strengths: &[i32], out: &mut [u8]) -> Answer
-    requires { ⌜ Loops numbers (now payload) (now strengths) (now out) ⌝ }
-    ensures { λ r. ⌜ given r (now (out .exit)) ≡ found (now (payload .entry)) ⌝ }
-{
-    let e = strengths.len();
-    let mut soft = [0i32; 1728];
-    sign(numbers, payload, strengths, &mut soft[..e]);
-    let decoded = decode(numbers, &soft[..e], out);
-    decoded.answer
-}
-
-// The self-test: codes the payload, gives each coded bit its sign and the caller's strength, and decodes that row. It answers 0
-// with the payload in the output, or the first number of 1 to 6 that applies. Entries are counted through the payload and then
-// the strengths, which are 1 to 127.
-pub fn loopback(numbers: Numbers, payload: &[u8], strengths: &[i32], out: &mut [u8]) -> Answer
-    ensures { λ r. ⌜ given r (now (out .exit)) ≡ looped numbers (now (payload .entry)) (now (strengths .entry)) (now (out .entry)) ⌝ }
-{
-    let a = numbers.a;
-    let e = numbers.e;
-    let first = checks::check_sizes(a, e, payload.len(), a, 0, 0);
-    let Answer::Done = first else {
-        return first;
-    };
-    let second = checks::check_sizes(a, e, strengths.len(), e, out.len(), a);
-    let Answer::Done = second else {
-        return second;
-    };
-    let byte = checks::first_bad(payload);
-    if byte < payload.len() {
-        return Answer::BadEntry(byte);
-    }
-    let strength = checks::first_outside(strengths, 1, 127);
-    if strength < strengths.len() {
-        return Answer::BadEntry(payload.len() + strength);
-    }
-    through(numbers, payload, strengths, out)
 }
 
 // What each of the positions 0..511 of the code for A and E is for, or the first number of 1, 2, 3 and 5 that applies, and the

@@ -60,7 +60,7 @@ pub extern "C" fn spelt_decode(
     pack(answer)
 }
 
-// The self-test: `dci::loopback`.
+// The self-test: `self_test::loopback`.
 #[no_mangle]
 pub extern "C" fn spelt_loopback(
     a: u64,
@@ -73,7 +73,7 @@ pub extern "C" fn spelt_loopback(
 ) -> u64
     ensures { λ r. ⌜ Returns (looped (numbers a e rnti «n_id») (now (payload .entry)) (now (strengths .entry)) (now (out .entry))) r (now (out .exit)) ⌝ }
 {
-    let answer = dci::loopback(Numbers { a, e, rnti, n_id }, payload, strengths, out);
+    let answer = self_test::loopback(Numbers { a, e, rnti, n_id }, payload, strengths, out);
     pack(answer)
 }
 

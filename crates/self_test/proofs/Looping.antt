@@ -31,8 +31,8 @@ use Rattle.nr.proofs.SoftRows.{natAbs-negateIf, length-descramble, getD-descram
 use Rattle.nr.proofs.Demand3.{demand3}
 use Rattle.nr.proofs.Loopback.{strength-range, Loops, whole, looped-is, looped-found}
 use Rattle.checks.specs.Checks.{sizeRefusal, Says}
-use Rattle.dci.specs.Loops.{signed, found}
+use Rattle.self_test.specs.Loops.{signed, found}
 use Rattle.dci.proofs.Outcomes.{place-0, place-6, passes, payload-bits}
 
 -- ---- demand 3, for whatever meets the contracts of the two calls
 

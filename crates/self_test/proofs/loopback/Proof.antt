@@ -1,4 +1,4 @@
--- `dci::loopback` meets its contract.
+-- `self_test::loopback` meets its contract.
 -- Assumes nothing.
 use Prim.Native.Nat.{_≤_}
 use native.Mathlib.Omega.{arith}
@@ -8,11 +8,11 @@ use borrow.Author.Needs.{needs}
 use Rattle.nr.specs.Rows.{first}
 use Rattle.nr.specs.Coding.{badByte}
 use Rattle.nr.specs.Loopback.{badStrength}
 use Rattle.dci.proofs.Ranges.{first-strength}
 use Rattle.dci.proofs.Outcomes.{refused}
-use Rattle.dci.proofs.Looping.{first-refused, second-refused, byte-refused, place-fits, strength-refused, loops, loop-done}
-use Rattle.dci.proofs.loopback.Statement.{statement}
-use Rattle.dci.proofs.loopback.Tie as tie
+use Rattle.self_test.proofs.Looping.{first-refused, second-refused, byte-refused, place-fits, strength-refused, loops, loop-done}
+use Rattle.self_test.proofs.loopback.Statement.{statement}
+use Rattle.self_test.proofs.loopback.Tie as tie
 
 -- no byte of the payload is bad
 bytes : (c : tie.Else1) → let a = c .before .before .before .before .before .before .before .before .before .before .args in

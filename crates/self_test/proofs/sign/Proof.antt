@@ -1,4 +1,4 @@
--- `dci::sign` meets its contract.
+-- `self_test::sign` meets its contract.
 -- Assumes nothing.
 use Prim.Native.Nat.{ℕ, _≤_}
 use mathlib.Core.Path.{_≡_, sym, subst, ap, _∙_}
@@ -9,8 +9,8 @@ use Rattle.nr.specs.Answer.{Outcome, given}
 use Rattle.nr.specs.SuccessiveDecoder.{descramble}
 use Rattle.nr.specs.Coding.{coding}
 use Rattle.rows.proofs.Parts.{take-replicate, front-back, front-room, front-size}
-use Rattle.dci.proofs.sign.Statement.{statement}
-use Rattle.dci.proofs.sign.Tie as tie
+use Rattle.self_test.proofs.sign.Statement.{statement}
+use Rattle.self_test.proofs.sign.Tie as tie
 
 -- E, the part of the row that is lent, and the coded bits that come back in it
 abbrev E : tie.Start → ℕ

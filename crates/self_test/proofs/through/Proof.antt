@@ -1,4 +1,4 @@
--- `dci::through` meets its contract: demand 3 over the two calls.
+-- `self_test::through` meets its contract: demand 3 over the two calls.
 -- Assumes nothing.
 use Prim.Native.Nat.{ℕ, _≤_}
 use mathlib.Core.Path.{_≡_, sym, subst, ap, _∙_}
@@ -9,10 +9,10 @@ use borrow.Author.Needs.{needs}
 use Rattle.nr.proofs.Construction.{accepted}
 use Rattle.nr.proofs.Refusals.{longest}
 use Rattle.rows.proofs.Parts.{front-back, front-room, front-size}
-use Rattle.dci.specs.Loops.{signed}
-use Rattle.dci.proofs.Looping.{strengths-within, loop-found}
-use Rattle.dci.proofs.through.Statement.{statement}
-use Rattle.dci.proofs.through.Tie as tie
+use Rattle.self_test.specs.Loops.{signed}
+use Rattle.self_test.proofs.Looping.{strengths-within, loop-found}
+use Rattle.self_test.proofs.through.Statement.{statement}
+use Rattle.self_test.proofs.through.Tie as tie
 
 -- E, the part of the row that is lent, and the noiseless row that comes back in it
 abbrev E : tie.Start → ℕ
