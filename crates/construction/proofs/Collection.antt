@@ -13,7 +13,7 @@ use Rattle.nr.specs.Rows.{count}
 use Rattle.nr.proofs.Rows.{length-count, getD-count}
 use Rattle.nr.proofs.Sifting.{passed, passed-all, passed-hit, passed-miss, passed-entry, passed-lt}
 use Rattle.rows.proofs.Parts.{drop-replicate}
-use Rattle.construction.specs.Window.{marked, padded}
+use Rattle.construction.specs.Shapes.{marked, padded}
 
 module _ (row : List ℕ) where
   -- the test, and how many pass before place p

@@ -14,7 +14,9 @@ use Rattle.nr.specs.Construction.{N, n, rateMatching, free, chosen, layout}
 use Rattle.nr.proofs.Rows.{keep-cong, ranged}
 use Rattle.nr.proofs.Construction.{Sized, n-by-length, enough, positions}
 use Rattle.construction.specs.declared.Shape.{Shape}
-use Rattle.construction.specs.Window.{usable, admits, Shapes, marked}
+use Rattle.admission.specs.Window.{usable, admits}
+use Rattle.admission.proofs.Sizes.{Size, size}
+use Rattle.construction.specs.Shapes.{Shapes, marked}
 use Rattle.nr.proofs.RoundTrip.{length-marks, marks-at}
 
 -- the places that are marked
@@ -59,3 +61,7 @@ module _ (K E : ℕ) (s : Sized K E) (shape : Shape) (l : Shapes K E shape) wher
 
   pub few : length (marked (marks (2 ^ m) (last (shape .k) (keep admitted reliability)))) ≤ 164
   few = subst (λ (k : ℕ). k ≤ 164) (sym (ap length positions-are ∙ positions K E s .size)) (s .high)
+
+-- the bounds of a shape
+pub shape-size : (K E : ℕ) → Sized K E → (shape : Shape) → Shapes K E shape → Size E (shape .n)
+shape-size K E s shape l = subst (Size E) (sym (l .n)) (size E (s .length))

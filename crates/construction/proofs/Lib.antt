@@ -1,7 +1,4 @@
--- Laws of the window and of the marks.
-pub mod Sizes
-pub mod Admission
-pub mod Ranks
+-- Laws of the marks and of the layouts.
 pub mod Choice
 pub mod Collection
 pub mod Layouts

@@ -19,9 +19,10 @@ use Rattle.nr.proofs.Rows.{kept, keeps, length-table, getD-table}
 use Rattle.nr.proofs.Construction.{Sized}
 use Rattle.nr.proofs.Describing.{length-roles, roles-at, role}
 use Rattle.nr.proofs.RoundTrip.{length-marks, marks-at}
-use Rattle.construction.specs.declared.Window.{Window}
+use Rattle.admission.specs.declared.Window.{Window}
 use Rattle.construction.specs.declared.Shape.{Shape}
-use Rattle.construction.specs.Window.{admits, Shapes, roleOf}
+use Rattle.admission.specs.Window.{admits}
+use Rattle.construction.specs.Shapes.{Shapes, roleOf}
 use Rattle.construction.proofs.Layouts.{exponent-is, best-are}
 
 -- ---- the tests one after the other

@@ -1,35 +1,27 @@
 // N, the kind of rate matching and what each position is for (38.212 5.3.1, 5.4.1), worked out from A and E.
 mod table;
 
+use admission::Window;
 use nr::RateMatching;
 ghost use mathlib.Core.Path.{_≡_};
-ghost use mathlib.Core.Bool.{true};
-ghost use Prim.Native.Nat.{ℕ, _+_, _≤_, _<_, _^_};
+ghost use Prim.Native.Nat.{_≤_, _^_};
 ghost use lib.ListN.{length, replicate};
 ghost use mathlib.Core.List.{map};
-ghost use Rattle.nr.specs.Rows.{count, has, keep, last};
+ghost use Rattle.nr.specs.Rows.{count, keep, last};
 ghost use Rattle.nr.specs.Numbers.{K};
-ghost use Rattle.nr.specs.Answer.{lengths, refusal};
+ghost use Rattle.nr.specs.Answer.{refusal};
 ghost use Rattle.nr.specs.Reliability.{reliability};
-ghost use Rattle.nr.specs.Construction.{N, rateMatching, layout};
+ghost use Rattle.nr.specs.Construction.{layout};
 ghost use Rattle.nr.specs.SuccessiveDecoder.{marks};
 ghost use Rattle.nr.specs.Describing.{barredAs, roles};
-ghost use Rattle.nr.proofs.Construction.{exponent};
-ghost use Rattle.nr.proofs.SubBlocks.{rank};
-ghost use Rattle.construction.specs.Window.{ranks, Applies, usable, admits, Shapes, marked, padded, Lays, roleOf};
+ghost use Rattle.admission.specs.Window.{ranks, admits};
+ghost use Rattle.construction.specs.Shapes.{Shapes, marked, padded, Lays, roleOf};
 
 // N = 2^n, how E bits are made of the N code bits, and the K information positions, ascending, with 0 past K.
 pub struct Layout {
     pub n: usize,
     pub kind: RateMatching,
     pub positions: [u16; 164],
-}
-
-// Which positions may carry information: those from `front` on whose rank in the sub-block order is at least `lo` and below `hi`.
-pub struct Window {
-    pub front: usize,
-    pub lo: usize,
-    pub hi: usize,
 }
 
 // A code's K, n, N = 2^n, kind, and the window of its positions.
@@ -41,56 +33,6 @@ pub struct Shape {
     pub window: Window,
 }
 
-// n, for our lengths. The 9/8 rule, the limit 8K and the floor of 32 never change it (`n-by-length`).
-fn exponent(e: usize) -> usize
-    requires { ⌜ has e lengths ≡ true ⌝ }
-    ensures { λ r. ⌜ r ≡ exponent e ⌝ }
-{
-    if e == 108 {
-        return 7;
-    }
-    if e == 216 { 8 } else { 9 }
-}
-
-// Repetition if E is at least N; else puncturing if K/E is at most 7/16, in whole numbers, else shortening.
-fn rate_matching(k: usize, e: usize, len: usize) -> RateMatching
-    requires { ⌜ (k ≤ 164) × (e ≤ 1728) × (len ≡ N k e) ⌝ }
-    ensures { λ r. ⌜ r ≡ rateMatching k e ⌝ }
-{
-    if len <= e {
-        return RateMatching::Repetition;
-    }
-    if 16 * k <= 7 * e {
-        RateMatching::Puncturing
-    } else {
-        RateMatching::Shortening
-    }
-}
-
-// The window of a code of N = `len`. For our lengths the prefix is 3N/4 - E/2 (`kind-applies`).
-fn window_of(kind: RateMatching, len: usize, e: usize) -> Window
-    requires { ⌜ (len ≤ 512) × (e ≤ 1728) × Applies kind len e ⌝ }
-    ensures { λ r. ⌜ ((n : ℕ) → 5 ≤ n → len ≡ 2 ^ n → (p : ℕ) → admits n r p ≡ usable kind len e p) ⌝ }
-{
-    match kind {
-        RateMatching::Repetition => Window {
-            front: 0,
-            lo: 0,
-            hi: len,
-        },
-        RateMatching::Puncturing => Window {
-            front: (3 * len - 2 * e + 3) / 4,
-            lo: len - e,
-            hi: len,
-        },
-        RateMatching::Shortening => Window {
-            front: 0,
-            lo: 0,
-            hi: e,
-        },
-    }
-}
-
 // The shape of the code for A and E.
 fn shape_of(a: u64, e: u64) -> Shape
     requires { ⌜ refusal a e ≡ 0 ⌝ }
@@ -98,10 +40,10 @@ fn shape_of(a: u64, e: u64) -> Shape
 {
     let k = (a as usize) + 24;
     let e = e as usize;
-    let n = exponent(e);
+    let n = admission::exponent(e);
     let len = 1 << n;
-    let kind = rate_matching(k, e, len);
-    let window = window_of(kind, len, e);
+    let kind = admission::rate_matching(k, e, len);
+    let window = admission::window_of(kind, len, e);
     Shape {
         k,
         n,
@@ -109,33 +51,6 @@ fn shape_of(a: u64, e: u64) -> Shape
         kind,
         window,
     }
-}
-
-// The i with J(i) = p, for N = 32 * 2^shift.
-fn rank(inverse: &[u8], shift: usize, p: usize) -> usize
-    requires { ⌜ (now inverse ≡ ranks) × (shift ≤ 4) × (p < 2 ^ (shift + 5)) ⌝ }
-    ensures { λ r. ⌜ r ≡ rank shift p ⌝ }
-{
-    let block = p >> shift;
-    ((inverse[block] as usize) << shift) + (p - (block << shift))
-}
-
-// Whether a position is below N and inside the window.
-fn is_admitted(inverse: &[u8], n: usize, w: Window, p: usize) -> bool
-    requires { ⌜ (now inverse ≡ ranks) × (5 ≤ n) × (n ≤ 9) ⌝ }
-    ensures { λ r. ⌜ r ≡ admits n w p ⌝ }
-{
-    if (1 << n) <= p {
-        return false;
-    }
-    if p < w.front {
-        return false;
-    }
-    let r = rank(inverse, n - 5, p);
-    if r < w.lo {
-        return false;
-    }
-    r < w.hi
 }
 
 // Marks the k most reliable of the positions that the window admits.
@@ -149,7 +64,7 @@ fn choose(table: &[u16], inverse: &[u8], n: usize, w: Window, k: usize, row: &mu
     while 0 < left {
         i -= 1;
         let p = table[i] as usize;
-        if is_admitted(inverse, n, w, p) {
+        if admission::is_admitted(inverse, n, w, p) {
             row[p] = 1;
             left -= 1;
         }
@@ -230,7 +145,7 @@ fn role(inverse: &[u8], n: usize, w: Window, bar: u8, row: &[u8], p: usize) -> u
     if row.len() <= p {
         return 4;
     }
-    if is_admitted(inverse, n, w, p) {
+    if admission::is_admitted(inverse, n, w, p) {
         row[p]
     } else {
         bar

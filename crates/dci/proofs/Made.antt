@@ -15,8 +15,8 @@ use Rattle.nr.proofs.Gather.{Fits}
 use Rattle.nr.proofs.RoundTrip.{Sound}
 use Rattle.nr.proofs.Demand3.{sound}
 use Rattle.construction.specs.declared.Layout.{Layout as Made}
-use Rattle.construction.specs.Window.{Lays}
-use Rattle.construction.proofs.Sizes.{size}
+use Rattle.construction.specs.Shapes.{Lays}
+use Rattle.admission.proofs.Sizes.{size}
 use Rattle.construction.proofs.Collection.{length-padded}
 use Rattle.polar.specs.Codes.{Positions, code}
 

@@ -6,8 +6,8 @@ use mathlib.Core.Path.{_≡_, sym, subst, ap, _∙_}
 use mathlib.Core.List.{List}
 use lib.ListN.{length, getD, length-replicate}
 use Rattle.nr.specs.Reliability.{reliability}
-use Rattle.construction.specs.Window.{admits}
-use Rattle.construction.proofs.Ranks.{admitted-below}
+use Rattle.admission.specs.Window.{admits}
+use Rattle.admission.proofs.Ranks.{admitted-below}
 use Rattle.nr.proofs.RoundTrip.{length-marks}
 use Rattle.construction.proofs.Choice.{reliability-length, Choosing, choosing, more, miss, hit, chose}
 use Rattle.construction.proofs.choose.Statement.{statement}

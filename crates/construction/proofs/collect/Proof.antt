@@ -6,7 +6,7 @@ use mathlib.Core.Path.{_≡_, refl, sym, subst, ap, _∙_}
 use mathlib.Core.List.{List}
 use lib.ListN.{length, getD, drop, replicate, length-replicate}
 use Rattle.rows.proofs.Filling.{Filling, filling, filling-more, filled-early, filling-length}
-use Rattle.construction.specs.Window.{marked, padded}
+use Rattle.construction.specs.Shapes.{marked, padded}
 use Rattle.construction.proofs.Collection.{before, skip, next, room, output, whole, length-padded, past-end}
 use Rattle.construction.proofs.collect.Statement.{statement}
 use Rattle.construction.proofs.collect.Tie as tie

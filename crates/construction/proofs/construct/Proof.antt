@@ -5,9 +5,8 @@ use mathlib.Core.Path.{ap, _∙_}
 use Rattle.nr.specs.Numbers.{K}
 use Rattle.nr.specs.Construction.{layout}
 use Rattle.nr.proofs.Construction.{Sized, accepted}
-use Rattle.construction.specs.Window.{padded}
-use Rattle.construction.proofs.Sizes.{shape-size}
-use Rattle.construction.proofs.Layouts.{exponent-is, wanted, positions-are, few}
+use Rattle.construction.specs.Shapes.{padded}
+use Rattle.construction.proofs.Layouts.{shape-size, exponent-is, wanted, positions-are, few}
 use Rattle.construction.proofs.construct.Statement.{statement}
 use Rattle.construction.proofs.construct.Tie as tie
 

@@ -11,9 +11,9 @@ use Rattle.nr.specs.Describing.{barredAs}
 use Rattle.nr.proofs.Construction.{Sized, accepted}
 use Rattle.nr.proofs.RoundTrip.{length-marks}
 use Rattle.rows.proofs.Parts.{take-replicate, front-back, front-room, front-size}
-use Rattle.construction.specs.Window.{ranks}
-use Rattle.construction.proofs.Sizes.{Size, shape-size}
-use Rattle.construction.proofs.Layouts.{wanted}
+use Rattle.admission.specs.Window.{ranks}
+use Rattle.admission.proofs.Sizes.{Size}
+use Rattle.construction.proofs.Layouts.{shape-size, wanted}
 use Rattle.construction.proofs.Roles.{described}
 use borrow.Author.Needs.{needs}
 use Rattle.construction.proofs.describe.Statement.{statement}

@@ -8,8 +8,8 @@ use lib.ListN.{length}
 use Rattle.nr.specs.Rows.{count}
 use Rattle.nr.proofs.Rows.{length-table, getD-table}
 use Rattle.rows.proofs.Filling.{Filling, filling, filling-more, filled, filling-length}
-use Rattle.construction.specs.declared.Window.{Window}
-use Rattle.construction.specs.Window.{roleOf}
+use Rattle.admission.specs.declared.Window.{Window}
+use Rattle.construction.specs.Shapes.{roleOf}
 use Rattle.construction.proofs.fill.Statement.{statement}
 use Rattle.construction.proofs.fill.Tie as tie
 

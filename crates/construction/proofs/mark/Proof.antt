@@ -3,7 +3,7 @@
 use mathlib.Core.Path.{refl}
 use Rattle.nr.specs.Reliability.{reliability}
 use Rattle.nr.specs.Construction.{P}
-use Rattle.construction.specs.Window.{ranks}
+use Rattle.admission.specs.Window.{ranks}
 use borrow.Author.Needs.{needs}
 use Rattle.construction.proofs.mark.Statement.{statement}
 use Rattle.construction.proofs.mark.Tie as tie

@@ -5,7 +5,7 @@ use mathlib.Core.Path.{_≡_, refl, sym, subst, ap, _∙_}
 use mathlib.Core.List.{List, _++_}
 use lib.ListN.{length, take, drop, replicate}
 use lib.Pow.{pow-mono}
-use Rattle.construction.specs.Window.{marked, padded}
+use Rattle.construction.specs.Shapes.{marked, padded}
 use Rattle.nr.proofs.RoundTrip.{length-marks}
 use Rattle.rows.proofs.Parts.{take-replicate, front-back, front-room, front-size}
 use borrow.Author.Needs.{needs}

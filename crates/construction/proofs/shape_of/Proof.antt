@@ -8,8 +8,8 @@ use Rattle.nr.specs.Numbers.{K}
 use Rattle.nr.specs.Construction.{N}
 use Rattle.nr.proofs.Words.{shl-one}
 use Rattle.nr.proofs.Construction.{Sized, clear, accepted, n-by-length}
-use Rattle.construction.specs.Window.{usable}
-use Rattle.construction.proofs.Sizes.{Size, size, kind-applies}
+use Rattle.admission.specs.Window.{usable}
+use Rattle.admission.proofs.Sizes.{Size, size, kind-applies}
 use borrow.Author.Needs.{needs}
 use Rattle.construction.proofs.shape_of.Statement.{statement}
 use Rattle.construction.proofs.shape_of.Tie as tie

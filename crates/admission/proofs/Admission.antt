@@ -16,8 +16,8 @@ use Rattle.nr.specs.Construction.{J, unsent, front, barred}
 use Rattle.nr.proofs.Tests.{left, right, pair, alike, has-count}
 use Rattle.nr.proofs.Rows.{ranged, has-left, has-right, has-either}
 use Rattle.nr.proofs.SubBlocks.{rank, rank-lt, found, finds}
-use Rattle.construction.specs.declared.Window.{Window}
-use Rattle.construction.specs.Window.{usable, admits}
+use Rattle.admission.specs.declared.Window.{Window}
+use Rattle.admission.specs.Window.{usable, admits}
 
 unless : {a b : ℕ} → (a < b → ⊥) → b ≤ a
 unless {a} {b} f = elim (decLe b a) [ yes m ↦ m | no m ↦ absurd (f (lt-of-not-le m)) ]

@@ -1,14 +1,14 @@
--- `construction::window_of` meets its contract.
+-- `admission::window_of` meets its contract.
 -- Assumes nothing.
 use Prim.Native.Nat.{_*_, _^_, _≤_}
 use native.Mathlib.Omega.{arith}
 use mathlib.Core.Path.{subst}
 use Rattle.nr.specs.declared.RateMatching.{RateMatching}
-use Rattle.construction.specs.Window.{Applies}
-use Rattle.construction.proofs.Admission.{repetition, puncturing, shortening}
+use Rattle.admission.specs.Window.{Applies}
+use Rattle.admission.proofs.Admission.{repetition, puncturing, shortening}
 use borrow.Author.Needs.{needs}
-use Rattle.construction.proofs.window_of.Statement.{statement}
-use Rattle.construction.proofs.window_of.Tie as tie
+use Rattle.admission.proofs.window_of.Statement.{statement}
+use Rattle.admission.proofs.window_of.Tie as tie
 
 enum-told : tie.Need-enum-told
 enum-told c = search needs

@@ -13,8 +13,7 @@ use Rattle.nr.specs.Construction.{log2up, n, N, lowRate, rateMatching}
 use Rattle.nr.proofs.Tests.{all, all-has, holds}
 use Rattle.nr.proofs.Construction.{Sized, exponent, n-by-length}
 use Rattle.nr.proofs.Refusals.{longest}
-use Rattle.construction.specs.declared.Shape.{Shape}
-use Rattle.construction.specs.Window.{Applies, Shapes}
+use Rattle.admission.specs.Window.{Applies}
 
 -- ---- the code length
 
@@ -47,9 +46,6 @@ size E h = record {
   len = leb→le (2 ^ exponent E) 512 (all-has (λ F. leb (2 ^ exponent F) 512) lengths (size-test .2) E h);
   length = longest E h;
 }
-
-pub shape-size : (K E : ℕ) → Sized K E → (shape : Shape) → Shapes K E shape → Size E (shape .n)
-shape-size K E s shape l = subst (Size E) (sym (l .n)) (size E (s .length))
 
 -- ---- the kind
 

@@ -14,8 +14,8 @@ use Rattle.nr.specs.Construction.{P}
 use Rattle.nr.proofs.Tests.{left, holds}
 use Rattle.nr.proofs.Rows.{length-table, getD-table}
 use Rattle.nr.proofs.SubBlocks.{rank, rank-lt, inside}
-use Rattle.construction.specs.declared.Window.{Window}
-use Rattle.construction.specs.Window.{ranks, admits}
+use Rattle.admission.specs.declared.Window.{Window}
+use Rattle.admission.specs.Window.{ranks, admits}
 
 -- ---- the rank
 

@@ -1,4 +1,4 @@
--- `construction::rank` meets its contract.
+-- `admission::rank` meets its contract.
 -- Assumes nothing.
 use Prim.Native.Nat.{_+_, _-_, _*_, _/_, _%_, _^_}
 use native.Mathlib.Nat.{div-mul-le-self}
@@ -6,10 +6,10 @@ use native.Mathlib.Omega.{arith}
 use mathlib.Core.Path.{_≡_, ap}
 use lib.ListN.{length, getD}
 use Rattle.nr.proofs.SubBlocks.{rank}
-use Rattle.construction.proofs.Ranks.{ranks-length, block-lt, block-start, rank-is, rank-fits}
+use Rattle.admission.proofs.Ranks.{ranks-length, block-lt, block-start, rank-is, rank-fits}
 use borrow.Author.Needs.{needs}
-use Rattle.construction.proofs.rank.Statement.{statement}
-use Rattle.construction.proofs.rank.Tie as tie
+use Rattle.admission.proofs.rank.Statement.{statement}
+use Rattle.admission.proofs.rank.Tie as tie
 
 -- what is returned, with the table that the contract names
 result : (c : tie.Start)

@@ -1,10 +1,10 @@
--- `construction::rate_matching` meets its contract.
+-- `admission::rate_matching` meets its contract.
 -- Assumes nothing.
 use native.Mathlib.Omega.{arith}
-use Rattle.construction.proofs.Sizes.{repeats, punctures, shortens}
+use Rattle.admission.proofs.Sizes.{repeats, punctures, shortens}
 use borrow.Author.Needs.{needs}
-use Rattle.construction.proofs.rate_matching.Statement.{statement}
-use Rattle.construction.proofs.rate_matching.Tie as tie
+use Rattle.admission.proofs.rate_matching.Statement.{statement}
+use Rattle.admission.proofs.rate_matching.Tie as tie
 
 returns : tie.Need-returns
 returns c = repeats (c .before .args .k) (c .before .args .e) (omega arith)

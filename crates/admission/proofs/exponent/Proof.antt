@@ -1,9 +1,9 @@
--- `construction::exponent` meets its contract.
+-- `admission::exponent` meets its contract.
 -- Assumes nothing.
 use borrow.Author.Tests.{eq-eqb, ne-eqb}
-use Rattle.construction.proofs.Sizes.{listed-is}
-use Rattle.construction.proofs.exponent.Statement.{statement}
-use Rattle.construction.proofs.exponent.Tie as tie
+use Rattle.admission.proofs.Sizes.{listed-is}
+use Rattle.admission.proofs.exponent.Statement.{statement}
+use Rattle.admission.proofs.exponent.Tie as tie
 
 returns : tie.Need-returns
 returns c =

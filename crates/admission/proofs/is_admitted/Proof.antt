@@ -1,4 +1,4 @@
--- `construction::is_admitted` meets its contract.
+-- `admission::is_admitted` meets its contract.
 -- Assumes nothing.
 use Prim.Native.Nat.{ℕ, _+_, _-_, _*_, _%_, _^_, _<_}
 use native.Mathlib.Omega.{arith}
@@ -6,10 +6,10 @@ use mathlib.Core.Path.{_≡_, subst, ap, _∙_}
 use lib.Dec.{ltb}
 use Rattle.nr.proofs.SubBlocks.{rank}
 use Rattle.nr.proofs.Words.{shl-one}
-use Rattle.construction.proofs.Ranks.{past, early, low, rest}
+use Rattle.admission.proofs.Ranks.{past, early, low, rest}
 use borrow.Author.Needs.{needs}
-use Rattle.construction.proofs.is_admitted.Statement.{statement}
-use Rattle.construction.proofs.is_admitted.Tie as tie
+use Rattle.admission.proofs.is_admitted.Statement.{statement}
+use Rattle.admission.proofs.is_admitted.Tie as tie
 
 -- N is a shift of 1
 power : (c : tie.Start) → 1 * 2 ^ c .args .n % 2 ^ 64 ≡ 2 ^ c .args .n

@@ -1,38 +1,18 @@
--- Which positions may carry information, as a test on the position and its rank in the sub-block order.
+-- A code as it is worked out: its shape, its marks, its layout, and what a position is for.
 -- Assumes nothing.
-use Prim.Native.Nat.{ℕ, _-_, _*_, _^_, _≤_}
+use Prim.Native.Nat.{ℕ, _-_, _^_}
 use mathlib.Core.Path.{_≡_}
-use mathlib.Core.Bool.{Bool, cond, not, _&&_}
-use mathlib.Core.List.{List, _++_, map}
-use lib.Dec.{eqb, leb, ltb}
+use mathlib.Core.Bool.{cond, not}
+use mathlib.Core.List.{List, _++_}
+use lib.Dec.{eqb, leb}
 use lib.ListN.{length, getD, replicate}
-use Rattle.nr.specs.declared.RateMatching.{RateMatching}
-use Rattle.nr.specs.declared.RateMatching.the-variants.{Repetition, Puncturing, Shortening}
-use Rattle.nr.specs.Rows.{count, has, keep, place}
-use Rattle.nr.specs.Construction.{P, rateMatching, barred, Layout}
-use Rattle.nr.proofs.SubBlocks.{rank}
+use Rattle.nr.specs.Rows.{count, keep}
+use Rattle.nr.specs.Construction.{rateMatching, Layout}
 use Rattle.nr.proofs.Construction.{exponent}
-use Rattle.construction.specs.declared.Window.{Window}
+use Rattle.admission.specs.declared.Window.{Window}
+use Rattle.admission.specs.Window.{usable, admits}
 use Rattle.construction.specs.declared.Shape.{Shape}
 use Rattle.construction.specs.declared.Layout.{Layout as Made}
-
--- where each sub-block stands in the order P
-unfoldable pub ranks : List ℕ
-ranks = map (λ b. place b P) (count 0 32)
-
--- what holds of N and E where a kind applies, for our lengths
-abbrev pub Applies : RateMatching → ℕ → ℕ → Type 0
-Applies Repetition N E = N ≤ E
-Applies Puncturing N E = (E ≤ N) × (3 * N ≤ 4 * E)
-Applies Shortening N E = E ≤ N
-
--- below N and not frozen because of rate matching
-abbrev pub usable : RateMatching → ℕ → ℕ → ℕ → Bool
-usable kind N E p = ltb p N && not (has p (barred kind N E))
-
--- below N, from the window's front on, and of a rank inside the window
-unfoldable pub admits : ℕ → Window → ℕ → Bool
-admits n w p = ltb p (2 ^ n) && (leb (w .front) p && (leb (w .lo) (rank (n - 5) p) && ltb (rank (n - 5) p) (w .hi)))
 
 -- what the proofs need of a shape: K, n and N by the length, the kind, and a window that admits what is not barred
 pub record Shapes (K E : ℕ) (s : Shape) : Type 0 where
