@@ -24,9 +24,9 @@ lib: $(ARCHIVE)
 
 # Proved again whenever a source has changed. What the prover says in full is in target/lib.log.
 $(ARCHIVE): crates.txt $(shell find crates -name '*.rt' -o -name '*.antt')
-	@echo "proving and building the library; from nothing this takes about two minutes"
+	@echo "proving and building the library; from nothing this takes two to three minutes"
 	mkdir -p target
-	(rt check speltfeather && rt staticlib speltfeather) 2>&1 | tee target/lib.log | grep --line-buffered '^rt:' ||
+	(rt check speltfeather && rt staticlib speltfeather) 2>&1 | tee target/lib.log | sed -un '/unchanged/d; /^rt:/p' ||
 	  { cat target/lib.log; exit 1; }
 
 help:
