@@ -2,9 +2,10 @@
 -- Assumes nothing.
 use Prim.Native.Nat.{ℕ, _*_, _^_, _≤_, _<_}
 use native.Mathlib.Omega.{arith}
-use mathlib.Core.Path.{_≡_, refl, sym, subst, ap, _∙_}
+use mathlib.Core.Path.{_≡_, refl, sym, ap, _∙_}
 use mathlib.Core.Bool.{Bool, true, false, cond}
 use lib.Dec.{T, eqb, leb, eqb→eq, leb→le}
+use lib.Pow.{pow-mono}
 use borrow.Author.Tests.{le-leb, lt-leb, leb-true, leb-false}
 use Rattle.nr.specs.declared.RateMatching.the-variants.{Repetition, Puncturing, Shortening}
 use Rattle.nr.specs.Rows.{has}
@@ -35,15 +36,15 @@ pub record Size (E n : ℕ) : Type 0 where
   pub len : 2 ^ n ≤ 512
   pub length : E ≤ 1728
 
-size-test : T (all (λ E. leb 5 (exponent E)) lengths) × T (all (λ E. leb (exponent E) 9) lengths) × T (all (λ E. leb (2 ^ exponent E) 512) lengths)
+low-test : T (all (λ E. leb 5 (exponent E)) lengths)
 unfolding log2up
-size-test = (tt, tt, tt)
+low-test = tt
 
 pub size : (E : ℕ) → T (has E lengths) → Size E (exponent E)
 size E h = record {
-  low = leb→le 5 (exponent E) (all-has (λ F. leb 5 (exponent F)) lengths (size-test .0) E h);
-  high = leb→le (exponent E) 9 (all-has (λ F. leb (exponent F) 9) lengths (size-test .1) E h);
-  len = leb→le (2 ^ exponent E) 512 (all-has (λ F. leb (2 ^ exponent F) 512) lengths (size-test .2) E h);
+  low = leb→le 5 (exponent E) (all-has (λ F. leb 5 (exponent F)) lengths low-test E h);
+  high = omega arith;
+  len = pow-mono {i = exponent E} {j = 9} (omega arith);
   length = longest E h;
 }
 

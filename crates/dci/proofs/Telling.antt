@@ -2,9 +2,7 @@
 -- Assumes nothing.
 use Prim.Native.Nat.{ℕ, zero, suc}
 use mathlib.Core.Path.{_≡_, refl, sym, ap, _∙_}
-use mathlib.Core.Bool.{Bool, true, false, cond}
 use mathlib.Core.List.{List}
-use lib.Dec.{eqb}
 use lib.ListN.{length}
 use Rattle.nr.specs.declared.Answer.{Answer}
 use Rattle.nr.specs.declared.Answer.the-variants.{Done}
@@ -12,18 +10,14 @@ use Rattle.nr.specs.Numbers.{K}
 use Rattle.nr.specs.Answer.{number, placeOf, refusal, outcome, given}
 use Rattle.nr.specs.Describing.{roles, describing}
 use Rattle.nr.proofs.Demand1.{outcome-number}
-use Rattle.nr.proofs.Describing.{describing-done}
+use Rattle.nr.proofs.Describing.{placeless, describing-done}
 use Rattle.checks.specs.Checks.{sizeRefusal, Says}
 
 -- a refused call carries no place here and leaves the old buffer
 kept : (i : ℕ) (new old : List ℕ) → (i ≡ 0 → ⊥) → outcome i 0 new old ≡ record { number = i; place = 0; buffer = old }
 unfolding outcome
 kept zero new old n = absurd (n refl)
-kept (suc i) new old n = ap (λ (x : ℕ). record { number = suc i; place = x; buffer = old }) (same (eqb (suc i) 6))
-  where
-    same : (b : Bool) → _≡_ {A = ℕ} (cond b 0 0) 0
-    same true = refl
-    same false = refl
+kept (suc i) new old n = ap (λ (x : ℕ). record { number = suc i; place = x; buffer = old }) (placeless (suc i) new old)
 
 module _ (A E : ℕ) (out : List ℕ) (r : Answer) (y : Says (sizeRefusal A E 0 0 (length out) 512) r) where
   abbrev size : ℕ

@@ -4,7 +4,6 @@ use nr::Numbers;
 use nr::RateMatching;
 ghost use mathlib.Core.Path.{_≡_};
 ghost use mathlib.Core.Bool.{cond};
-ghost use Prim.Native.Nat.{_≤_};
 ghost use lib.ListN.{length};
 ghost use Rattle.nr.specs.Rows.{entries, Bits};
 ghost use Rattle.nr.specs.Numbers.{K};

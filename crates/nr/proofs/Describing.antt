@@ -1,35 +1,31 @@
 -- The call that describes a code: 512 numbers, 1 exactly at the information positions, of which there are K; when 0 is given.
 -- Assumes nothing.
-use Prim.Native.Nat.{ℕ, zero, suc, _^_, _≤_, _<_}
+use Prim.Native.Nat.{ℕ, zero, suc, _≤_, _<_}
 use native.Mathlib.Omega.{arith}
 use mathlib.Core.Path.{_≡_, refl, sym, ap, _∙_}
 use mathlib.Core.Logic.{_↔_}
 use mathlib.Core.Bool.{Bool, true, false, cond, not}
 use mathlib.Core.List.{List, [], _∷_}
-use lib.Dec.{T, eqb, leb, ltb, leb→le}
+use lib.Dec.{eqb, leb, ltb}
 use lib.ListN.{length, getD}
+use lib.Pow.{pow-mono}
 use borrow.Author.Tests.{eq-eqb, eqb-true, leb-true}
 use Rattle.nr.specs.declared.RateMatching.{RateMatching}
 use Rattle.nr.specs.declared.RateMatching.the-variants.{Repetition, Puncturing, Shortening}
 use Rattle.nr.specs.Rows.{count, has, keep}
 use Rattle.nr.specs.Numbers.{K}
 use Rattle.nr.specs.Answer.{lengths, firstOf, outside, refusal, outcome}
-use Rattle.nr.specs.Construction.{log2up, N, rateMatching, barred, chosen, layout}
+use Rattle.nr.specs.Construction.{N, rateMatching, barred, chosen, layout}
 use Rattle.nr.specs.Describing.{barredAs, roles, describing}
-use Rattle.nr.proofs.Tests.{all, all-has, isn't, holds, clash}
+use Rattle.nr.proofs.Tests.{isn't, holds, clash}
 use Rattle.nr.proofs.Rows.{length-table, getD-table, keep-cong, ranged, members, ascending-distinct}
 use Rattle.nr.proofs.Construction.{Sized, exponent, n-by-length, clear, positions}
 use Rattle.nr.proofs.Demand1.{Untouched, untouched, outcome-number}
 
 -- ---- the roles
 
--- N is at most 512
-short-test : T (all (λ E. leb (2 ^ exponent E) 512) lengths)
-unfolding log2up
-short-test = tt
-
 short : (K E : ℕ) → Sized K E → N K E ≤ 512
-short K E s = rw (n-by-length K E s) (leb→le (2 ^ exponent E) 512 (all-has (λ F. leb (2 ^ exponent F) 512) lengths short-test E (s .length)))
+short K E s = rw (n-by-length K E s) (pow-mono {i = exponent E} {j = 9} (omega arith))
 
 module _ (K E : ℕ) where
   -- the role of one position
@@ -76,7 +72,7 @@ module _ (K E : ℕ) where
 
 -- ---- the outcome
 
-placeless : (i : ℕ) (new old : List ℕ) → outcome i 0 new old .place ≡ 0
+pub placeless : (i : ℕ) (new old : List ℕ) → outcome i 0 new old .place ≡ 0
 unfolding outcome
 placeless zero new old = refl
 placeless (suc i) new old = same (eqb (suc i) 6)
