@@ -1,5 +1,6 @@
 //! What calls are refused for, one by one and together.
 
+use channel::Random;
 use reference::CODED_LENGTHS;
 
 /// Sizes that a program with narrower numbers, or one that adds without care, would take for others.
@@ -62,7 +63,7 @@ pub fn length(fits: u64, wrong: bool, shorter: bool) -> usize {
 pub type Pair = (u64, u64, u8);
 
 /// Pairs around the borders of 1; those that are accepted get `fine`.
-pub fn payload_sizes(fine: u8) -> Vec<Pair> {
+fn payload_sizes(fine: u8) -> Vec<Pair> {
     let mut sized = vec![];
     for e in CODED_LENGTHS {
         let far = FAR
@@ -83,7 +84,7 @@ pub fn payload_sizes(fine: u8) -> Vec<Pair> {
 }
 
 /// Pairs around the borders of 2.
-pub fn coded_lengths() -> Vec<Pair> {
+fn coded_lengths() -> Vec<Pair> {
     let mut sized = vec![];
     for a in [12, 40, 84, 140] {
         sized.extend([0, 1, 32, 54, 64, 128, 256, 324, 512, 1024, 1836].map(|e| (a, e, 2)));
@@ -96,7 +97,7 @@ pub fn coded_lengths() -> Vec<Pair> {
 }
 
 /// Pairs around the border of 3; those that are accepted get `fine`.
-pub fn too_many_bits(fine: u8) -> Vec<Pair> {
+fn too_many_bits(fine: u8) -> Vec<Pair> {
     let mut sized: Vec<Pair> = (80..=84).map(|a| (a, 108, fine)).collect();
     sized.extend((85..=140).map(|a| (a, 108, 3)));
     sized.push((140, 216, fine));
@@ -106,4 +107,12 @@ pub fn too_many_bits(fine: u8) -> Vec<Pair> {
 /// All of these.
 pub fn sizes(fine: u8) -> Vec<Pair> {
     [payload_sizes(fine), coded_lengths(), too_many_bits(fine)].concat()
+}
+
+/// Puts each pair to `expect`, with the number that it gets.
+pub fn expect_all(pairs: Vec<Pair>, seed: u64, expect: fn(u64, u64, u8, &mut Random)) {
+    let mut random = Random::new(seed);
+    for (a, e, number) in pairs {
+        expect(a, e, number, &mut random);
+    }
 }

@@ -39,10 +39,9 @@ fn every_code_has_the_layout_of_the_reference() {
 
 #[test]
 fn sizes() {
-    let mut random = Random::new(SEED);
-    for (a, e, number) in faults::sizes(0) {
-        Describe::new(a, e, 512, &mut random).expect(number, 0);
-    }
+    faults::expect_all(faults::sizes(0), SEED, |a, e, number, random| {
+        Describe::new(a, e, 512, random).expect(number, 0);
+    });
 }
 
 #[test]

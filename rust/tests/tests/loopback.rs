@@ -66,10 +66,7 @@ fn expect_sizes(a: u64, e: u64, number: u8, random: &mut Random) {
 
 #[test]
 fn sizes() {
-    let mut random = Random::new(SEED);
-    for (a, e, number) in faults::sizes(0) {
-        expect_sizes(a, e, number, &mut random);
-    }
+    faults::expect_all(faults::sizes(0), SEED, expect_sizes);
 }
 
 #[test]

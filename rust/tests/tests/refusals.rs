@@ -1,6 +1,6 @@
 //! Refusals of coding: each at its boundaries, in their order, with the buffer untouched.
 
-use conformance::faults::{self, Faults, Pair, length};
+use conformance::faults::{self, Faults, length};
 use conformance::{Call, Encode, Random};
 use speltfeather::Numbers;
 
@@ -22,26 +22,9 @@ fn expect_sizes(a: u64, e: u64, number: u8, random: &mut Random) {
     call(a, e, payload, output, random).expect(number, 0);
 }
 
-fn expect_all(pairs: Vec<Pair>) {
-    let mut random = Random::new(SEED);
-    for (a, e, number) in pairs {
-        expect_sizes(a, e, number, &mut random);
-    }
-}
-
 #[test]
-fn payload_size() {
-    expect_all(faults::payload_sizes(0));
-}
-
-#[test]
-fn coded_length() {
-    expect_all(faults::coded_lengths());
-}
-
-#[test]
-fn too_many_bits() {
-    expect_all(faults::too_many_bits(0));
+fn sizes() {
+    faults::expect_all(faults::sizes(0), SEED, expect_sizes);
 }
 
 #[test]
