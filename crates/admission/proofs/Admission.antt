@@ -12,10 +12,10 @@ use lib.Dec.{T, leb, ltb, ltb→lt, lt→ltb, leb→le, le→leb, T-not, not-T}
 use borrow.Author.Tests.{le-leb}
 use Rattle.nr.specs.declared.RateMatching.the-variants.{Repetition, Puncturing, Shortening}
 use Rattle.nr.specs.Rows.{count, has}
-use Rattle.nr.specs.Construction.{J, unsent, front, barred}
+use Rattle.nr.specs.Construction.{J, unsent, front, barred, rank}
 use Rattle.nr.proofs.Tests.{left, right, pair, alike, has-count}
 use Rattle.nr.proofs.Rows.{ranged, has-left, has-right, has-either}
-use Rattle.nr.proofs.SubBlocks.{rank, rank-lt, found, finds}
+use Rattle.nr.proofs.SubBlocks.{rank-lt, found, finds}
 use Rattle.admission.specs.declared.Window.{Window}
 use Rattle.admission.specs.Window.{usable, admits}
 

@@ -10,10 +10,10 @@ use lib.ListN.{length, getD}
 use lib.Pow.{pow-mono}
 use borrow.Author.Tests.{lt-ltb, le-ltb, le-leb, lt-leb}
 use Rattle.nr.specs.Rows.{place}
-use Rattle.nr.specs.Construction.{P}
+use Rattle.nr.specs.Construction.{P, rank}
 use Rattle.nr.proofs.Tests.{left, holds}
 use Rattle.nr.proofs.Rows.{length-table, getD-table}
-use Rattle.nr.proofs.SubBlocks.{rank, rank-lt, inside}
+use Rattle.nr.proofs.SubBlocks.{rank-lt, inside}
 use Rattle.admission.specs.declared.Window.{Window}
 use Rattle.admission.specs.Window.{ranks, admits}
 

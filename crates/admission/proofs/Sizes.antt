@@ -8,11 +8,11 @@ use lib.Dec.{T, eqb, leb, eqb→eq, leb→le}
 use lib.Pow.{pow-mono}
 use borrow.Author.Tests.{le-leb, lt-leb, leb-true, leb-false}
 use Rattle.nr.specs.declared.RateMatching.the-variants.{Repetition, Puncturing, Shortening}
-use Rattle.nr.specs.Rows.{has}
+use Rattle.nr.specs.Rows.{has, all}
 use Rattle.nr.specs.Answer.{lengths}
-use Rattle.nr.specs.Construction.{log2up, n, N, lowRate, rateMatching}
-use Rattle.nr.proofs.Tests.{all, all-has, holds}
-use Rattle.nr.proofs.Construction.{Sized, exponent, n-by-length}
+use Rattle.nr.specs.Construction.{log2up, n, N, lowRate, rateMatching, exponent}
+use Rattle.nr.proofs.Tests.{all-has, holds}
+use Rattle.nr.proofs.Construction.{Sized, n-by-length}
 use Rattle.nr.proofs.Refusals.{longest}
 use Rattle.admission.specs.Window.{Applies}
 

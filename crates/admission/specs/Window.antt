@@ -7,8 +7,7 @@ use lib.Dec.{leb, ltb}
 use Rattle.nr.specs.declared.RateMatching.{RateMatching}
 use Rattle.nr.specs.declared.RateMatching.the-variants.{Repetition, Puncturing, Shortening}
 use Rattle.nr.specs.Rows.{count, has, place}
-use Rattle.nr.specs.Construction.{P, barred}
-use Rattle.nr.proofs.SubBlocks.{rank}
+use Rattle.nr.specs.Construction.{P, barred, rank}
 use Rattle.admission.specs.declared.Window.{Window}
 
 -- where each sub-block stands in the order P

@@ -6,9 +6,7 @@ ghost use mathlib.Core.Bool.{true};
 ghost use Prim.Native.Nat.{ℕ, _+_, _≤_, _<_, _^_};
 ghost use Rattle.nr.specs.Rows.{has};
 ghost use Rattle.nr.specs.Answer.{lengths};
-ghost use Rattle.nr.specs.Construction.{N, rateMatching};
-ghost use Rattle.nr.proofs.Construction.{exponent};
-ghost use Rattle.nr.proofs.SubBlocks.{rank};
+ghost use Rattle.nr.specs.Construction.{N, rateMatching, exponent, rank};
 ghost use Rattle.admission.specs.Window.{ranks, Applies, usable, admits};
 
 // Which positions may carry information: those from `front` on whose rank in the sub-block order is at least `lo` and below `hi`.

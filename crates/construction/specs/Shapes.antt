@@ -7,8 +7,7 @@ use mathlib.Core.List.{List, _++_}
 use lib.Dec.{eqb, leb}
 use lib.ListN.{length, getD, replicate}
 use Rattle.nr.specs.Rows.{count, keep}
-use Rattle.nr.specs.Construction.{rateMatching, Layout}
-use Rattle.nr.proofs.Construction.{exponent}
+use Rattle.nr.specs.Construction.{rateMatching, Layout, exponent}
 use Rattle.admission.specs.declared.Window.{Window}
 use Rattle.admission.specs.Window.{usable, admits}
 use Rattle.construction.specs.declared.Shape.{Shape}

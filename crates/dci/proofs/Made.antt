@@ -10,10 +10,10 @@ use Rattle.nr.specs.declared.RateMatching.{RateMatching}
 use Rattle.nr.specs.Numbers.{K}
 use Rattle.nr.specs.Answer.{refusal}
 use Rattle.nr.specs.Construction.{Layout, layout}
+use Rattle.nr.specs.RateMatching.{Fits}
 use Rattle.nr.proofs.Construction.{Sized, accepted, n-by-length, positions}
-use Rattle.nr.proofs.Gather.{Fits}
 use Rattle.nr.proofs.RoundTrip.{Sound}
-use Rattle.nr.proofs.Demand3.{sound}
+use Rattle.nr.proofs.Promise3.{sound}
 use Rattle.construction.specs.declared.Layout.{Layout as Made}
 use Rattle.construction.specs.Shapes.{Lays}
 use Rattle.admission.proofs.Sizes.{size}

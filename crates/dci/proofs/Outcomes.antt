@@ -6,7 +6,7 @@ use native.Mathlib.Nat.{lt-of-not-le}
 use native.Mathlib.Omega.{arith}
 use mathlib.Core.Path.{_≡_, refl, sym, ap, _∙_}
 use mathlib.Core.Bool.{Bool, true, false, not, cond}
-use mathlib.Core.List.{List, [], _∷_}
+use mathlib.Core.List.{List, [], _∷_, _++_}
 use lib.Dec.{eqb, ltb}
 use lib.IntN.{ℤ, pos, natAbs}
 use lib.ListN.{length, getD, take, List·getD-eq-default}
@@ -17,15 +17,15 @@ use Rattle.nr.proofs.Answer.{the-type}
 use Rattle.nr.specs.declared.Numbers.{Numbers}
 use Rattle.nr.specs.declared.Answer.{Answer}
 use Rattle.nr.specs.declared.Answer.the-variants.{Done, PayloadSize, CodedLength, TooManyBits, InputLength, OutputLength, BadEntry, ParityMismatch}
-use Rattle.nr.specs.Rows.{has, first, Bits}
+use Rattle.nr.specs.Rows.{first, Bits, Within}
 use Rattle.nr.specs.Numbers.{K}
-use Rattle.nr.specs.Answer.{lengths, firstOf, outside, number, placeOf, refusalOf, outcome, given}
+use Rattle.nr.specs.Answer.{firstOf, tests, number, placeOf, refusalOf, outcome, given}
 use Rattle.nr.specs.Construction.{layout}
 use Rattle.nr.specs.Parity.{parityMatches}
 use Rattle.nr.specs.Scrambling.{cInit}
 use Rattle.nr.specs.Coding.{coded, badByte, codingFor, coding}
 use Rattle.nr.specs.Decoding.{received, orParity, badSoft, decodingFor, decoding}
-use Rattle.nr.proofs.Ints.{Within}
+use Rattle.nr.proofs.Chains.{ahead, behind, at-most}
 use Rattle.nr.proofs.Refusals.{Passes, passes-exactly, before-first}
 use Rattle.checks.specs.Checks.{sizeRefusal, Says}
 use Rattle.dci.specs.Judged.{judged}
@@ -42,77 +42,70 @@ refused OutputLength t e = omega arith
 refused (BadEntry k) t e = omega arith
 refused ParityMismatch t e = omega arith
 
--- ---- the last test behind five others; f is what becomes of the number behind them, and keeps 1 to 6
+-- ---- a row of five tests, and a last one behind them
 
--- one of the five applies
-module _ (f : ℕ → ℕ) (keeps : (i : ℕ) → f (suc i) ≡ suc i) (at : ℕ) (new old : List ℕ) where
-  stays : (i : ℕ) → (i ≡ 0 → ⊥) → f i ≡ i
-  stays zero n = absurd (n refl)
-  stays (suc i) n = keeps i
+module _ (ts : List Bool) (t : Bool) (at : ℕ) (new old : List ℕ) (five : length ts ≡ 5) where
+  abbrev all-six : ℕ
+  all-six = firstOf 1 (ts ++ (t ∷ []))
 
-  pub place-0 : (i : ℕ) → (i ≡ 0 → ⊥) → (i ≡ 6 → ⊥) → outcome (f i) at new old ≡ record { number = i; place = 0; buffer = old }
-  unfolding outcome
-  place-0 zero n m = absurd (n refl)
-  place-0 (suc i) n m =
-      ap (λ (j : ℕ). outcome j at new old) (keeps i)
-      ∙ ap (λ (b : Bool). record { number = suc i; place = cond b at 0; buffer = old }) (ne-eqb (suc i) 6 m)
+  -- f is what becomes of the number behind them, and keeps 1 to 6
+  module _ (f : ℕ → ℕ) (keeps : (i : ℕ) → f (suc i) ≡ suc i) where
+    place-0 : (i : ℕ) → (i ≡ 0 → ⊥) → i ≤ 5 → outcome (f i) at new old ≡ record { number = i; place = 0; buffer = old }
+    unfolding outcome
+    place-0 zero n l = absurd (n refl)
+    place-0 (suc i) n l =
+        ap (λ (j : ℕ). outcome j at new old) (keeps i)
+        ∙ ap (λ (b : Bool). record { number = suc i; place = cond b at 0; buffer = old }) (ne-eqb (suc i) 6 (λ e. omega arith))
 
-  pub place-6 : outcome (f 6) at new old ≡ record { number = 6; place = at; buffer = old }
-  unfolding outcome
-  place-6 = ap (λ (j : ℕ). outcome j at new old) (keeps 5)
+    -- one of the five applies
+    pub five-refused : (r : Answer) → Says (firstOf 1 ts) r → (number r ≡ 0 → ⊥) → given r old ≡ outcome (f all-six) at new old
+    unfolding given
+    five-refused r y n =
+        let m : firstOf 1 ts ≡ 0 → ⊥ = λ e. n (y .number ∙ e) in
+        cc (y .number, y .place, ahead 0 ts (t ∷ []) m, place-0 (firstOf 1 ts) m (omega (arith, at-most 0 ts, five)))
 
-five : (a b c d e f : Bool) → (firstOf 1 (a ∷ b ∷ c ∷ d ∷ e ∷ []) ≡ 0 → ⊥)
-    → (firstOf 1 (a ∷ b ∷ c ∷ d ∷ e ∷ f ∷ []) ≡ firstOf 1 (a ∷ b ∷ c ∷ d ∷ e ∷ [])) × (firstOf 1 (a ∷ b ∷ c ∷ d ∷ e ∷ []) ≡ 6 → ⊥)
-five true b c d e f n = (refl, λ w. omega arith)
-five false true c d e f n = (refl, λ w. omega arith)
-five false false true d e f n = (refl, λ w. omega arith)
-five false false false true e f n = (refl, λ w. omega arith)
-five false false false false true f n = (refl, λ w. omega arith)
-five false false false false false f n = absurd (n refl)
+    -- the last one does
+    pub last-refused : all-six ≡ 6 → (k : ℕ) → k ≡ at → given (BadEntry k) old ≡ outcome (f all-six) at new old
+    unfolding given number placeOf outcome
+    last-refused e k q =
+        ap (λ (at : ℕ). record { number = 6; place = at; buffer = old }) q
+        ∙ sym (ap (λ (i : ℕ). outcome (f i) at new old) e ∙ ap (λ (j : ℕ). outcome j at new old) (keeps 5))
 
--- none does
-by-entry : (a b c d e f : Bool) → firstOf 1 (a ∷ b ∷ c ∷ d ∷ e ∷ []) ≡ 0 → firstOf 1 (a ∷ b ∷ c ∷ d ∷ e ∷ f ∷ []) ≡ cond f 6 0
-by-entry true b c d e f n = let z : ⊥ = omega arith in absurd z
-by-entry false true c d e f n = let z : ⊥ = omega arith in absurd z
-by-entry false false true d e f n = let z : ⊥ = omega arith in absurd z
-by-entry false false false true e f n = let z : ⊥ = omega arith in absurd z
-by-entry false false false false true f n = let z : ⊥ = omega arith in absurd z
-by-entry false false false false false f n = refl
+  -- none of the five does: the last one decides
+  pub last-decides : firstOf 1 ts ≡ 0 → all-six ≡ cond t 6 0
+  last-decides e = behind 0 ts (t ∷ []) e ∙ ap (λ (i : ℕ). cond t i 0) (omega arith)
 
 -- ---- a call with one input
 
 module _ {X : Type 0} (bad : X → Bool) (A E : ℕ) (input : List X) (asked : ℕ) (out : List ℕ) (wanted : ℕ) where
-  abbrev size : ℕ
-  size = sizeRefusal A E (length input) asked (length out) wanted
+  abbrev sizes : List Bool
+  sizes = tests A E (not (eqb (length input) asked) ∷ not (eqb (length out) wanted) ∷ [])
+
+  abbrev entry : Bool
+  entry = ltb (first bad input) (length input)
 
   abbrev whole : ℕ
   whole = refusalOf A E bad input asked out wanted
 
   -- the sizes are refused
   module _ (f : ℕ → ℕ) (keeps : (i : ℕ) → f (suc i) ≡ suc i) (at : ℕ) (new : List ℕ) where
-    pub size-refused : (r : Answer) → Says size r → (number r ≡ 0 → ⊥) → given r out ≡ outcome (f whole) at new out
-    unfolding given refusalOf
-    size-refused r y n =
-        let t = five (outside A) (not (has E lengths)) (ltb E (K A)) (not (eqb (length input) asked)) (not (eqb (length out) wanted))
-        (ltb (first bad input) (length input)) (λ e. n (y .number ∙ e)) in
-        cc (y .number, y .place, t .0, place-0 f keeps at new out size (λ e. n (y .number ∙ e)) (t .1))
+    pub size-refused : (r : Answer) → Says (firstOf 1 sizes) r → (number r ≡ 0 → ⊥) → given r out ≡ outcome (f whole) at new out
+    unfolding refusalOf
+    size-refused = five-refused sizes entry at new out refl f keeps
 
-  module _ (r : Answer) (y : Says size r) (e : r ≡ Done) where
-    left : whole ≡ cond (ltb (first bad input) (length input)) 6 0
+  module _ (r : Answer) (y : Says (firstOf 1 sizes) r) (e : r ≡ Done) where
+    left : whole ≡ cond entry 6 0
     unfolding number refusalOf
-    left =
-        by-entry (outside A) (not (has E lengths)) (ltb E (K A)) (not (eqb (length input) asked)) (not (eqb (length out) wanted))
-        (ltb (first bad input) (length input)) (sym (y .number) ∙ ap number e)
+    left = last-decides sizes entry 0 [] out refl (sym (y .number) ∙ ap number e)
 
     -- an entry is refused
     pub entry-refused : (f : ℕ → ℕ) (keeps : (i : ℕ) → f (suc i) ≡ suc i) (new : List ℕ) (k : ℕ) → k ≡ first bad input → k < length input
         → given (BadEntry k) out ≡ outcome (f whole) (first bad input) new out
-    unfolding given number placeOf
+    unfolding refusalOf
     entry-refused f keeps new k q l =
         let m : first bad input < length input = omega arith in
-        let six : whole ≡ 6 = left ∙ ap (λ (b : Bool). cond b 6 0) (lt-ltb (first bad input) (length input) m) in
-        ap (λ (at : ℕ). record { number = 6; place = at; buffer = out }) q
-        ∙ sym (ap (λ (i : ℕ). outcome (f i) (first bad input) new out) six ∙ place-6 f keeps (first bad input) new out)
+        last-refused sizes entry (first bad input) new out refl f keeps
+        (left ∙ ap (λ (b : Bool). cond b 6 0) (lt-ltb (first bad input) (length input) m)) k q
 
     -- none is
     module _ (l : length input ≤ first bad input) where

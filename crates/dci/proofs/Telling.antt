@@ -9,7 +9,7 @@ use Rattle.nr.specs.declared.Answer.the-variants.{Done}
 use Rattle.nr.specs.Numbers.{K}
 use Rattle.nr.specs.Answer.{number, placeOf, refusal, outcome, given}
 use Rattle.nr.specs.Describing.{roles, describing}
-use Rattle.nr.proofs.Demand1.{outcome-number}
+use Rattle.nr.proofs.Promise1.{outcome-number}
 use Rattle.nr.proofs.Describing.{placeless, describing-done}
 use Rattle.checks.specs.Checks.{sizeRefusal, Says}
 

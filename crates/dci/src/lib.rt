@@ -5,7 +5,7 @@ use nr::RateMatching;
 ghost use mathlib.Core.Path.{_≡_};
 ghost use mathlib.Core.Bool.{cond};
 ghost use lib.ListN.{length};
-ghost use Rattle.nr.specs.Rows.{entries, Bits};
+ghost use Rattle.nr.specs.Rows.{entries, Bits, Within};
 ghost use Rattle.nr.specs.Numbers.{K};
 ghost use Rattle.nr.specs.Answer.{refusal, outcome, given};
 ghost use Rattle.nr.specs.Construction.{layout};
@@ -14,7 +14,6 @@ ghost use Rattle.nr.specs.Scrambling.{cInit};
 ghost use Rattle.nr.specs.Coding.{coded, coding};
 ghost use Rattle.nr.specs.Decoding.{decided, decoding};
 ghost use Rattle.nr.specs.Describing.{describing};
-ghost use Rattle.nr.proofs.Ints.{Within};
 ghost use Rattle.dci.specs.Judged.{judged};
 
 // The E scrambled bits of a payload of A bits.

@@ -2,20 +2,21 @@
 -- Assumes nothing.
 use Prim.Native.Nat.{ℕ, _+_, _-_, _*_, _/_, _^_, _≤_, _<_, min}
 use native.Mathlib.Omega.{arith}
-use mathlib.Core.Path.{_≡_, refl, subst, _∙_}
-use mathlib.Core.Bool.{Bool, true, false, cond, not, _&&_, _||_}
-use mathlib.Core.List.{List}
+use mathlib.Core.Path.{_≡_, _∙_}
+use mathlib.Core.Bool.{Bool, true, false, not, _&&_, _||_}
+use mathlib.Core.List.{List, []}
 use lib.Dec.{T, ltb, leb, eqb, eqb→eq, leb→le, ltb→lt}
 use lib.ListN.{length, drop, length-drop}
-use borrow.Author.Tests.{le-ltb, ltb-false}
+use borrow.Author.Tests.{le-ltb, ltb-false, not-false}
 use Rattle.nr.specs.declared.RateMatching.{RateMatching}
 use Rattle.nr.specs.declared.RateMatching.the-variants.{Repetition, Puncturing, Shortening}
-use Rattle.nr.specs.Rows.{count, has}
+use Rattle.nr.specs.Rows.{count, has, all, ascending}
 use Rattle.nr.specs.Numbers.{K}
-use Rattle.nr.specs.Answer.{lengths, outside, refusal}
+use Rattle.nr.specs.Answer.{lengths, outside, tests, refusal}
 use Rattle.nr.specs.Reliability.{reliability}
-use Rattle.nr.specs.Construction.{log2up, n1, n2, n, N, lowRate, rateMatching, P, J, unsent, front, barred, free, chosen, layout}
-use Rattle.nr.proofs.Tests.{all, distinct, ascending, left, right, holds, all-has, all-count}
+use Rattle.nr.specs.Construction.{log2up, n1, n2, n, N, lowRate, rateMatching, P, J, unsent, front, barred, free, chosen, layout, exponent}
+use Rattle.nr.proofs.Tests.{distinct, left, right, holds, neither, all-has, all-count}
+use Rattle.nr.proofs.Chains.{none}
 use Rattle.nr.proofs.Rows.{kept, distinct-keep, dropped, distinct-drop, members, ascends}
 
 -- ---- accepted pairs
@@ -28,14 +29,9 @@ pub record Clear (A E : ℕ) : Type 0 where
 
 pub clear : (A E : ℕ) → refusal A E ≡ 0 → Clear A E
 unfolding refusal
-clear A E e = go (outside A) refl (has E lengths) refl (ltb E (K A)) refl e
-  where
-    go : (a : Bool) → outside A ≡ a → (b : Bool) → has E lengths ≡ b → (c : Bool) → ltb E (K A) ≡ c
-        → _≡_ {A = ℕ} (cond a 1 (cond (not b) 2 (cond c 3 0))) 0 → Clear A E
-    go true p b q c r e = let z : ⊥ = omega arith in absurd z
-    go false p false q c r e = let z : ⊥ = omega arith in absurd z
-    go false p true q true r e = let z : ⊥ = omega arith in absurd z
-    go false p true q false r e = record { size = p; length = q; room = r }
+clear A E e =
+    let t = none 0 (tests A E []) e in
+    record { size = t .0; length = not-false (has E lengths) (t .1 .0); room = t .1 .1 .0 }
 
 -- the same in the terms of K
 pub record Sized (K E : ℕ) : Type 0 where
@@ -47,12 +43,8 @@ pub record Sized (K E : ℕ) : Type 0 where
 pub accepted : (A E : ℕ) → refusal A E ≡ 0 → Sized (K A) E
 accepted A E e =
     let c = clear A E e in
-    let b = neither (ltb A 12) (ltb 140 A) (c .size) in
+    let b = neither (ltb A 12) (ltb 140 A) .0 (c .size) in
     record { low = omega (arith, ltb-false A 12 (b .0)); high = omega (arith, ltb-false 140 A (b .1)); length = holds (c .length); fits = ltb-false E (K A) (c .room) }
-  where
-    neither : (a b : Bool) → (a || b) ≡ false → (a ≡ false) × (b ≡ false)
-    neither true b e = absurd (subst T e tt)
-    neither false b e = (refl, e)
 
 -- a test that every accepted pair passes
 abbrev everyPair : (ℕ → ℕ → Bool) → Bool
@@ -66,10 +58,6 @@ at f t K E c =
     rw (le-ltb E K (c .fits)) at u
 
 -- ---- the code length
-
--- N is the least power of two that holds E bits, at most 512
-abbrev pub exponent : ℕ → ℕ
-exponent E = min (log2up E) 9
 
 n-test : T (everyPair (λ K E. eqb (n K E) (exponent E)))
 unfolding log2up n1 n2 n

@@ -5,22 +5,23 @@ use native.Mathlib.Omega.{arith}
 use mathlib.Core.Path.{_≡_, refl, sym, ap, _∙_}
 use mathlib.Core.Logic.{_↔_}
 use mathlib.Core.Bool.{Bool, true, false, cond, not}
-use mathlib.Core.List.{List, [], _∷_}
-use lib.Dec.{eqb, leb, ltb}
+use mathlib.Core.List.{List}
+use lib.Dec.{eqb, leb}
 use lib.ListN.{length, getD}
 use lib.Pow.{pow-mono}
-use borrow.Author.Tests.{eq-eqb, eqb-true, leb-true}
+use borrow.Author.Tests.{leb-true}
 use Rattle.nr.specs.declared.RateMatching.{RateMatching}
 use Rattle.nr.specs.declared.RateMatching.the-variants.{Repetition, Puncturing, Shortening}
 use Rattle.nr.specs.Rows.{count, has, keep}
 use Rattle.nr.specs.Numbers.{K}
-use Rattle.nr.specs.Answer.{lengths, firstOf, outside, refusal, outcome}
-use Rattle.nr.specs.Construction.{N, rateMatching, barred, chosen, layout}
+use Rattle.nr.specs.Answer.{refusal, outcome}
+use Rattle.nr.specs.Construction.{N, rateMatching, barred, chosen, layout, exponent}
 use Rattle.nr.specs.Describing.{barredAs, roles, describing}
 use Rattle.nr.proofs.Tests.{isn't, holds, clash}
 use Rattle.nr.proofs.Rows.{length-table, getD-table, keep-cong, ranged, members, ascending-distinct}
-use Rattle.nr.proofs.Construction.{Sized, exponent, n-by-length, clear, positions}
-use Rattle.nr.proofs.Demand1.{Untouched, untouched, outcome-number}
+use Rattle.nr.proofs.Construction.{Sized, n-by-length, positions}
+use Rattle.nr.proofs.Refusals.{InTurn, in-turn, in-turn-none, carried, length-is}
+use Rattle.nr.proofs.Promise1.{Untouched, untouched, outcome-number}
 
 -- ---- the roles
 
@@ -42,6 +43,26 @@ module _ (K E : ℕ) where
   pub roles-at : (p : ℕ) → p < 512 → getD (roles K E) p 0 ≡ role p
   unfolding roles
   roles-at p h = getD-table role 512 p 0 h
+
+  -- 4 exactly from N on
+  pub past-end : (p : ℕ) → p < 512 → eqb (getD (roles K E) p 0) 4 ≡ leb (N K E) p
+  unfolding barredAs
+  past-end p h =
+      ap (λ (x : ℕ). eqb x 4) (roles-at p h)
+      ∙ go (leb (N K E) p) (has p (barred (rateMatching K E) (N K E) E)) (rateMatching K E) (has p (chosen (rateMatching K E) (N K E) K E))
+    where
+      go : (a b : Bool) (kind : RateMatching) (c : Bool) → eqb (cond a 4 (cond b (barredAs kind) (cond c 1 0))) 4 ≡ a
+      go true b kind c = refl
+      go false true Repetition c = refl
+      go false true Puncturing c = refl
+      go false true Shortening c = refl
+      go false false kind true = refl
+      go false false kind false = refl
+
+  -- and below it a barred position has the role of its kind
+  pub barred-role : (p : ℕ) → p < 512 → leb (N K E) p ≡ false → has p (barred (rateMatching K E) (N K E) E) ≡ true
+      → getD (roles K E) p 0 ≡ barredAs (rateMatching K E)
+  barred-role p h a b = roles-at p h ∙ rw (a, b)
 
   module _ (s : Sized K E) where
     -- 1 exactly at the information positions
@@ -81,6 +102,10 @@ placeless (suc i) new old = same (eqb (suc i) 6)
     same true = refl
     same false = refl
 
+-- a test that never applies
+never : (false ≡ false) ↔ Unit {0}
+never = (λ e. tt, λ u. refl)
+
 module _ (A E : ℕ) (out : List ℕ) where
   pub describing-untouched : Untouched out (describing A E out)
   unfolding describing
@@ -91,19 +116,18 @@ module _ (A E : ℕ) (out : List ℕ) where
   unfolding describing
   describing-place = placeless _ (roles (K A) E) out
 
+  -- each of 1 to 5 is given exactly where its test applies and none before it; 4 and 6 never
+  pub describing-in-turn : InTurn A E (Unit {0}) (length out ≡ 512) (Unit {0}) (describing A E out .number)
+  unfolding describing
+  describing-in-turn =
+      carried (λ k l. (λ e. sym (outcome-number _ 0 (roles (K A) E) out) ∙ e, λ e. outcome-number _ 0 (roles (K A) E) out ∙ e))
+      (in-turn A E false (not (eqb (length out) 512)) false never (length-is (length out) 512) never)
+
   -- 0 exactly where A and E are accepted and the output has 512 bytes
   pub describing-done : (describing A E out .number ≡ 0) ↔ ((refusal A E ≡ 0) × (length out ≡ 512))
-  unfolding describing refusal
-  describing-done = (
-    λ e. go (outside A) (not (has E lengths)) (ltb E (K A)) (eqb (length out) 512) refl (sym (outcome-number _ 0 (roles (K A) E) out) ∙ e),
-    λ h. let c = clear A E (h .0) in
-        outcome-number _ 0 (roles (K A) E) out ∙ rw (c .size, c .length, c .room, eq-eqb (length out) 512 (h .1)),
-  )
-    where
-      go : (a b c d : Bool) → eqb (length out) 512 ≡ d → firstOf 1 (a ∷ b ∷ c ∷ false ∷ not d ∷ []) ≡ 0
-          → (_≡_ {A = ℕ} (cond a 1 (cond b 2 (cond c 3 0))) 0) × (length out ≡ 512)
-      go true b c d q e = let z : ⊥ = omega arith in absurd z
-      go false true c d q e = let z : ⊥ = omega arith in absurd z
-      go false false true d q e = let z : ⊥ = omega arith in absurd z
-      go false false false false q e = let z : ⊥ = omega arith in absurd z
-      go false false false true q e = (refl, eqb-true (length out) 512 q)
+  unfolding describing
+  describing-done =
+      let n = in-turn-none A E false (not (eqb (length out) 512)) false never (length-is (length out) 512) never in (
+        λ e. let z = n .0 (sym (outcome-number _ 0 (roles (K A) E) out) ∙ e) in (z .0, z .1 .1 .0),
+        λ h. outcome-number _ 0 (roles (K A) E) out ∙ n .1 (h .0, (tt, (h .1, tt))),
+      )

@@ -14,16 +14,10 @@ use lib.ListN.{length, getD, take, drop, replicate, length-take, length-drop, le
 use borrow.Author.Tests.{eq-eqb, ne-eqb, eqb-true}
 use Rattle.nr.specs.declared.RateMatching.{RateMatching}
 use Rattle.nr.specs.declared.RateMatching.the-variants.{Repetition, Puncturing, Shortening}
-use Rattle.nr.specs.RateMatching.{selected}
+use Rattle.nr.specs.RateMatching.{selected, Fits}
 use Rattle.nr.specs.SuccessiveDecoder.{plus, addUp, certain, gather}
 use Rattle.nr.proofs.Rows.{getD-behind}
 use Rattle.nr.proofs.SuccessiveDecoder.{Sign}
-
--- what the kind says of N and E
-abbrev pub Fits : RateMatching → ℕ → ℕ → Type 0
-Fits Repetition N E = N ≤ E
-Fits Puncturing N E = E < N
-Fits Shortening N E = E < N
 
 -- of a row whose places are k, k + 1, ..: the sum of the values with `from` of the place equal to i
 unfoldable pub added : (ℕ → ℕ) → ℕ → ℕ → List ℤ → ℤ

@@ -8,10 +8,10 @@ use mathlib.Core.List.{List, [], _∷_, _++_, map}
 use lib.Dec.{T, eqb, ltb, leb, ltb→lt, leb→le, le→leb}
 use lib.ListN.{length, getD, replicate}
 use lib.Seq.{ext-getD}
-use Rattle.nr.specs.Rows.{count, has, keep, place, entries, Bits}
+use Rattle.nr.specs.Rows.{count, has, keep, place, Bits, all}
 use Rattle.nr.specs.Parity.{generator, divide, remainder}
 use Rattle.nr.specs.Interleaver.{interleaver, pattern, interleave, deinterleave}
-use Rattle.nr.proofs.Tests.{all, distinct, left, right, pair, off, here, there, all-has, all-count}
+use Rattle.nr.proofs.Tests.{distinct, left, right, pair, off, here, there, all-has, all-count}
 use Rattle.nr.proofs.Rows.{kept, keeps, distinct-keep, mapped, source, members, keep-all, ranged, length-count, place-has, length-picked, getD-picked, length-entries, getD-entries}
 use Rattle.nr.proofs.Zip.{bits-entries}
 

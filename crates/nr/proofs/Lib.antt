@@ -1,5 +1,6 @@
 -- The laws about the definitions of specs/. docs/PROOFS.md lists them in words.
 pub mod Tests
+pub mod Chains
 pub mod Rows
 pub mod Zip
 pub mod Words
@@ -17,9 +18,10 @@ pub mod Matching
 pub mod Scrambling
 pub mod RoundTrip
 pub mod Refusals
-pub mod Demand1
-pub mod Demand3
+pub mod Promise1
+pub mod Promise3
 pub mod Loopback
 pub mod Describing
 pub mod Kronecker
 pub mod MarkedCases
+pub mod Pins

@@ -12,18 +12,18 @@ use lib.IntN.{ℤ, pos, negℤ}
 use lib.ListN.{length, getD}
 use Rattle.nr.specs.declared.RateMatching.{RateMatching}
 use Rattle.nr.specs.declared.RateMatching.the-variants.{Repetition, Puncturing, Shortening}
-use Rattle.nr.specs.Rows.{count, has, place, xor, Bits}
-use Rattle.nr.specs.Construction.{J, unsent}
+use Rattle.nr.specs.Rows.{count, has, xor, Bits}
+use Rattle.nr.specs.Construction.{J, unsent, rank}
 use Rattle.nr.specs.Transform.{transform}
-use Rattle.nr.specs.RateMatching.{subBlocks, selected, select}
+use Rattle.nr.specs.RateMatching.{subBlocks, selected, select, Fits}
 use Rattle.nr.specs.SuccessiveDecoder.{negateIf, plus, certain, gather, codeRow}
 use Rattle.nr.proofs.Tests.{holds, is, clash}
 use Rattle.nr.proofs.Rows.{length-picked, getD-picked}
 use Rattle.nr.proofs.Zip.{bits-entries}
 use Rattle.nr.proofs.Transform.{Each, transform-zero}
 use Rattle.nr.proofs.SuccessiveDecoder.{Sign, Soft, Clean}
-use Rattle.nr.proofs.Gather.{Fits, zero-first, gather-adds, gather-punctured, gather-shortened, added-sign}
-use Rattle.nr.proofs.SubBlocks.{rank, rank-lt, J-rank, found, finds, shortened-up}
+use Rattle.nr.proofs.Gather.{zero-first, gather-adds, gather-punctured, gather-shortened, added-sign}
+use Rattle.nr.proofs.SubBlocks.{rank-lt, J-rank, found, finds, shortened-up}
 use Rattle.nr.proofs.SoftRows.{codeRow-is, getD-byPosition}
 
 -- ---- the sent bits

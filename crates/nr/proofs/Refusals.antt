@@ -11,30 +11,35 @@ use mathlib.Core.List.{List, [], _∷_}
 use lib.Dec.{T, eqb, ltb}
 use lib.ListN.{length, getD, drop}
 use lib.Seq.{drop-cons}
-use borrow.Author.Tests.{le-ltb, ltb-true, ltb-false, eq-eqb, eqb-true}
+use borrow.Author.Tests.{lt-ltb, le-ltb, ltb-true, ltb-false, eq-eqb, eqb-true, not-false}
 use Rattle.nr.specs.Rows.{has, first}
 use Rattle.nr.specs.Numbers.{K}
-use Rattle.nr.specs.Answer.{lengths, outside, refusal, refusalOf}
-use Rattle.nr.proofs.Tests.{cases}
-use Rattle.nr.proofs.Construction.{clear, Sized, accepted}
+use Rattle.nr.specs.Answer.{lengths, firstOf, outside, tests, refusal, refusalOf}
+use Rattle.nr.proofs.Tests.{is, holds, clash, or-right, either, neither, cases}
+use Rattle.nr.proofs.Chains.{at-most, applies, given-by, later-none, later}
+use Rattle.nr.proofs.Construction.{Sized, accepted}
 
 -- ---- 1 to 3
+
+-- document 01's lengths, written out
+abbrev pub Listed : ℕ → Type 0
+Listed E = (E ≡ 108) ⊎ ((E ≡ 216) ⊎ ((E ≡ 432) ⊎ ((E ≡ 864) ⊎ (E ≡ 1728))))
 
 -- document 01's accepted pairs, written out
 pub record Pair (A E : ℕ) : Type 0 where
   pub low : 12 ≤ A
   pub high : A ≤ 140
-  pub length : (E ≡ 108) ⊎ ((E ≡ 216) ⊎ ((E ≡ 432) ⊎ ((E ≡ 864) ⊎ (E ≡ 1728))))
+  pub length : Listed E
   pub room : A + 24 ≤ E
 
-pub listed : (E : ℕ) → (E ≡ 108) ⊎ ((E ≡ 216) ⊎ ((E ≡ 432) ⊎ ((E ≡ 864) ⊎ (E ≡ 1728)))) → has E lengths ≡ true
+pub listed : (E : ℕ) → Listed E → has E lengths ≡ true
 listed E (inl e) = ap (λ (x : ℕ). has x lengths) e
 listed E (inr (inl e)) = ap (λ (x : ℕ). has x lengths) e
 listed E (inr (inr (inl e))) = ap (λ (x : ℕ). has x lengths) e
 listed E (inr (inr (inr (inl e)))) = ap (λ (x : ℕ). has x lengths) e
 listed E (inr (inr (inr (inr e)))) = ap (λ (x : ℕ). has x lengths) e
 
-pub which : (E : ℕ) → T (has E lengths) → (E ≡ 108) ⊎ ((E ≡ 216) ⊎ ((E ≡ 432) ⊎ ((E ≡ 864) ⊎ (E ≡ 1728))))
+pub which : (E : ℕ) → T (has E lengths) → Listed E
 which E t = elim (cases E 108 (216 ∷ 432 ∷ 864 ∷ 1728 ∷ []) t) [
   | inl e ↦ inl e
   | inr t ↦ inr (elim (cases E 216 (432 ∷ 864 ∷ 1728 ∷ []) t) [
@@ -113,75 +118,137 @@ module _ {X : Type 0} (bad : X → Bool) where
       go true h = omega arith
       go false h = omega arith
 
--- ---- 1 to 6
+-- ---- 1 to 6, in turn
+
+-- i is the number of the first of these that applies: A is outside 12..140; E is none of the lengths; A + 24 is more than E; not
+-- Input; not Output; not Entries
+pub record InTurn (A E : ℕ) (Input Output Entries : Type 0) (i : ℕ) : Type 0 where
+  pub one : (i ≡ 1) ↔ ((A < 12) ⊎ (140 < A))
+  pub two : (i ≡ 2) ↔ (((12 ≤ A) × (A ≤ 140)) × (Listed E → ⊥))
+  pub three : (i ≡ 3) ↔ (((12 ≤ A) × (A ≤ 140)) × (Listed E × (E < A + 24)))
+  pub four : (i ≡ 4) ↔ ((refusal A E ≡ 0) × (Input → ⊥))
+  pub five : (i ≡ 5) ↔ ((refusal A E ≡ 0) × (Input × (Output → ⊥)))
+  pub six : (i ≡ 6) ↔ ((refusal A E ≡ 0) × (Input × (Output × (Entries → ⊥))))
+
+-- a test that fails exactly where P holds applies exactly where it does not
+denied : (t : Bool) {P : Type 0} → ((t ≡ false) ↔ P) → (t ≡ true) ↔ (P → ⊥)
+denied true d = (λ e p. clash refl (d .1 p), λ n. refl)
+denied false d = (λ e. clash e refl, λ n. absurd (n (d .0 refl)))
+
+outside-is : (A : ℕ) → (outside A ≡ true) ↔ ((A < 12) ⊎ (140 < A))
+outside-is A = (
+  λ e. elim (either (ltb A 12) (ltb 140 A) e) [ inl l ↦ inl (ltb-true A 12 l) | inr h ↦ inr (ltb-true 140 A h) ],
+  λ h. elim h [ inl l ↦ rw (lt-ltb A 12 l) | inr h ↦ is (outside A) (or-right (ltb A 12) (ltb 140 A) (holds (lt-ltb 140 A h))) ],
+)
+
+inside-is : (A : ℕ) → (outside A ≡ false) ↔ ((12 ≤ A) × (A ≤ 140))
+inside-is A = (
+  λ e. let n = neither (ltb A 12) (ltb 140 A) .0 e in (ltb-false A 12 (n .0), ltb-false 140 A (n .1)),
+  λ h. rw (le-ltb A 12 (h .0), le-ltb 140 A (h .1)),
+)
+
+listed-is : (E : ℕ) → (not (has E lengths) ≡ false) ↔ Listed E
+listed-is E = (λ e. which E (holds (not-false (has E lengths) e)), λ l. ap not (listed E l))
+
+-- the tests of 4 to 6 fail exactly where Input, Output and Entries hold
+module _ (A E : ℕ) {Input Output Entries : Type 0} (t₄ t₅ t₆ : Bool) (d₄ : (t₄ ≡ false) ↔ Input) (d₅ : (t₅ ≡ false) ↔ Output) (d₆ : (t₆ ≡ false) ↔ Entries) where
+  abbrev late : List Bool
+  late = t₄ ∷ t₅ ∷ t₆ ∷ []
+
+  abbrev row : List Bool
+  row = tests A E late
+
+  pub in-turn : InTurn A E Input Output Entries (firstOf 1 row)
+  unfolding refusal
+  in-turn = record {
+    one = (λ e. outside-is A .0 (applies 0 0 row e), λ h. given-by 0 0 row (outside-is A .1 h));
+    two = (
+      λ e. let a = applies 0 1 row e in (inside-is A .0 (a .0), denied (not (has E lengths)) (listed-is E) .0 (a .1)),
+      λ h. given-by 0 1 row (inside-is A .1 (h .0), denied (not (has E lengths)) (listed-is E) .1 (h .1)),
+    );
+    three = (
+      λ e. let a = applies 0 2 row e in (inside-is A .0 (a .0), (listed-is E .0 (a .1 .0), ltb-true E (K A) (a .1 .1))),
+      λ h. given-by 0 2 row (inside-is A .1 (h .0), (listed-is E .1 (h .1 .0), lt-ltb E (K A) (h .1 .1))),
+    );
+    four = (
+      λ e. let a = later 0 (tests A E []) late .0 e in (a .0, denied t₄ d₄ .0 (a .1)),
+      λ h. later 0 (tests A E []) late .1 (h .0, denied t₄ d₄ .1 (h .1)),
+    );
+    five = (
+      λ e. let a = later 1 (tests A E []) late .0 e in (a .0, (d₄ .0 (a .1 .0), denied t₅ d₅ .0 (a .1 .1))),
+      λ h. later 1 (tests A E []) late .1 (h .0, (d₄ .1 (h .1 .0), denied t₅ d₅ .1 (h .1 .1))),
+    );
+    six = (
+      λ e. let a = later 2 (tests A E []) late .0 e in (a .0, (d₄ .0 (a .1 .0), (d₅ .0 (a .1 .1 .0), denied t₆ d₆ .0 (a .1 .1 .1)))),
+      λ h. later 2 (tests A E []) late .1 (h .0, (d₄ .1 (h .1 .0), (d₅ .1 (h .1 .1 .0), denied t₆ d₆ .1 (h .1 .1 .1)))),
+    );
+  }
+
+  -- and 0 where none does
+  pub in-turn-none : (firstOf 1 row ≡ 0) ↔ ((refusal A E ≡ 0) × (Input × (Output × Entries)))
+  unfolding refusal
+  in-turn-none = (
+    λ e. let n = later-none (tests A E []) late .0 e in (n .0, (d₄ .0 (n .1 .0), (d₅ .0 (n .1 .1 .0), d₆ .0 (n .1 .1 .1 .0)))),
+    λ h. later-none (tests A E []) late .1 (h .0, (d₄ .1 (h .1 .0), (d₅ .1 (h .1 .1 .0), (d₆ .1 (h .1 .1 .1), tt)))),
+  )
+
+-- another number that is each of 1 to 6 exactly where i is
+pub carried : {A E : ℕ} {Input Output Entries : Type 0} {i j : ℕ} → ((k : ℕ) → k < 6 → (j ≡ suc k) ↔ (i ≡ suc k))
+    → InTurn A E Input Output Entries i → InTurn A E Input Output Entries j
+carried {A} {E} {Input} {Output} {Entries} {i} {j} same t = record {
+  one = via 0 (omega arith) (t .one);
+  two = via 1 (omega arith) (t .two);
+  three = via 2 (omega arith) (t .three);
+  four = via 3 (omega arith) (t .four);
+  five = via 4 (omega arith) (t .five);
+  six = via 5 (omega arith) (t .six);
+}
+  where
+    via : {P : Type 0} (k : ℕ) → k < 6 → ((i ≡ suc k) ↔ P) → (j ≡ suc k) ↔ P
+    via k l p = (λ e. p .0 (same k l .0 e), λ h. same k l .1 (p .1 h))
+
+-- the tests of lengths and entries
+pub length-is : (a b : ℕ) → (not (eqb a b) ≡ false) ↔ (a ≡ b)
+length-is a b = (λ e. eqb-true a b (not-false (eqb a b) e), λ e. ap not (eq-eqb a b e))
+
+pub no-entry : {X : Type 0} (bad : X → Bool) (input : List X) → (ltb (first bad input) (length input) ≡ false) ↔ (first bad input ≡ length input)
+no-entry bad input = (
+  λ e. omega (arith, first-le bad input, ltb-false (first bad input) (length input) e),
+  λ e. le-ltb (first bad input) (length input) (omega arith),
+)
+
+-- ---- a call with one input
 
 module _ {X : Type 0} (A E : ℕ) (bad : X → Bool) (input : List X) (asked : ℕ) (out : List ℕ) (wanted : ℕ) where
+  pub refused-in-turn : InTurn A E (length input ≡ asked) (length out ≡ wanted) (first bad input ≡ length input) (refusalOf A E bad input asked out wanted)
+  unfolding refusalOf
+  refused-in-turn =
+      in-turn A E (not (eqb (length input) asked)) (not (eqb (length out) wanted)) (ltb (first bad input) (length input))
+      (length-is (length input) asked) (length-is (length out) wanted) (no-entry bad input)
+
   pub record Passes : Type 0 where
     pub pair : refusal A E ≡ 0
     pub input-length : length input ≡ asked
     pub output-length : length out ≡ wanted
     pub entries : first bad input ≡ length input
 
-  -- the first number of the six, by their tests
-  abbrev chain : Bool → Bool → Bool → Bool → Bool → Bool → ℕ
-  chain a b c d e f = cond a 1 (cond b 2 (cond c 3 (cond (not d) 4 (cond (not e) 5 (cond f 6 0)))))
-
   -- none of 1 to 6 applies exactly then
   pub passes-exactly : (refusalOf A E bad input asked out wanted ≡ 0) ↔ Passes
-  unfolding refusal refusalOf
-  passes-exactly = (
-    go (outside A) refl (not (has E lengths)) refl (ltb E (K A)) refl (eqb (length input) asked) refl (eqb (length out) wanted) refl (ltb (first bad input) (length input)) refl,
-    λ p. let c = clear A E (p .pair) in
-        rw (c .size, c .length, c .room, eq-eqb (length input) asked (p .input-length), eq-eqb (length out) wanted (p .output-length), le-ltb (first bad input) (length input) (omega (arith, p .entries))),
-  )
-    where
-      go : (a : Bool) → outside A ≡ a → (b : Bool) → not (has E lengths) ≡ b → (c : Bool) → ltb E (K A) ≡ c
-          → (d : Bool) → eqb (length input) asked ≡ d → (e : Bool) → eqb (length out) wanted ≡ e → (f : Bool) → ltb (first bad input) (length input) ≡ f
-          → chain a b c d e f ≡ 0 → Passes
-      go true p b q c r d s e t f u w = let z : ⊥ = omega arith in absurd z
-      go false p true q c r d s e t f u w = let z : ⊥ = omega arith in absurd z
-      go false p false q true r d s e t f u w = let z : ⊥ = omega arith in absurd z
-      go false p false q false r false s e t f u w = let z : ⊥ = omega arith in absurd z
-      go false p false q false r true s false t f u w = let z : ⊥ = omega arith in absurd z
-      go false p false q false r true s true t true u w = let z : ⊥ = omega arith in absurd z
-      go false p false q false r true s true t false u w = record {
-        pair = rw (p, q, r);
-        input-length = eqb-true (length input) asked s;
-        output-length = eqb-true (length out) wanted t;
-        entries = omega (arith, first-le bad input, ltb-false (first bad input) (length input) u);
-      }
-
-  -- 6 is the last, and is given only where an entry is bad
-  chain-six : (a b c d e f : Bool) → (chain a b c d e f ≤ 6) × (chain a b c d e f ≡ 6 → f ≡ true)
-  chain-six true b c d e f = (omega arith, λ w. let z : ⊥ = omega arith in absurd z)
-  chain-six false true c d e f = (omega arith, λ w. let z : ⊥ = omega arith in absurd z)
-  chain-six false false true d e f = (omega arith, λ w. let z : ⊥ = omega arith in absurd z)
-  chain-six false false false false e f = (omega arith, λ w. let z : ⊥ = omega arith in absurd z)
-  chain-six false false false true false f = (omega arith, λ w. let z : ⊥ = omega arith in absurd z)
-  chain-six false false false true true true = (omega arith, λ w. refl)
-  chain-six false false false true true false = (omega arith, λ w. let z : ⊥ = omega arith in absurd z)
-
-  six : (refusalOf A E bad input asked out wanted ≤ 6) × (refusalOf A E bad input asked out wanted ≡ 6 → ltb (first bad input) (length input) ≡ true)
   unfolding refusalOf
-  six =
-      chain-six (outside A) (not (has E lengths)) (ltb E (K A)) (eqb (length input) asked) (eqb (length out) wanted)
-      (ltb (first bad input) (length input))
+  passes-exactly =
+      let n = in-turn-none A E (not (eqb (length input) asked)) (not (eqb (length out) wanted)) (ltb (first bad input) (length input))
+      (length-is (length input) asked) (length-is (length out) wanted) (no-entry bad input) in (
+        λ e. let h = n .0 e in record { pair = h .0; input-length = h .1 .0; output-length = h .1 .1 .0; entries = h .1 .1 .1 },
+        λ p. n .1 (p .pair, (p .input-length, (p .output-length, p .entries))),
+      )
+
+  pub at-most-six : refusalOf A E bad input asked out wanted ≤ 6
+  unfolding refusalOf
+  at-most-six = at-most 0 (tests A E (not (eqb (length input) asked) ∷ not (eqb (length out) wanted) ∷ ltb (first bad input) (length input) ∷ []))
 
   -- where 6 is given, A and E are accepted and the input has the length that was asked
   pub six-sizes : refusalOf A E bad input asked out wanted ≡ 6 → (refusal A E ≡ 0) × (length input ≡ asked)
-  unfolding refusal refusalOf
-  six-sizes =
-      go (outside A) (not (has E lengths)) (ltb E (K A)) (eqb (length input) asked) refl (eqb (length out) wanted) (ltb (first bad input) (length input))
-    where
-      go : (a b c d : Bool) → eqb (length input) asked ≡ d → (e f : Bool) → chain a b c d e f ≡ 6 → (_≡_ {A = ℕ} (cond a 1 (cond b 2 (cond c 3 0))) 0) × (length input ≡ asked)
-      go true b c d s e f w = let z : ⊥ = omega arith in absurd z
-      go false true c d s e f w = let z : ⊥ = omega arith in absurd z
-      go false false true d s e f w = let z : ⊥ = omega arith in absurd z
-      go false false false false s e f w = let z : ⊥ = omega arith in absurd z
-      go false false false true s e f w = (refl, eqb-true (length input) asked s)
-
-  pub at-most-six : refusalOf A E bad input asked out wanted ≤ 6
-  at-most-six = six .0
+  six-sizes e = let s = refused-in-turn .six .0 e in (s .0, s .1 .0)
 
 -- place is that of the first bad entry
 pub record FirstBad {X : Type 0} (bad : X → Bool) (input : List X) (d : X) (place : ℕ) : Type 0 where
@@ -192,5 +259,6 @@ pub record FirstBad {X : Type 0} (bad : X → Bool) (input : List X) (d : X) (pl
 pub six-first : {X : Type 0} (A E : ℕ) (bad : X → Bool) (input : List X) (asked : ℕ) (out : List ℕ) (wanted : ℕ) (d : X)
     → refusalOf A E bad input asked out wanted ≡ 6 → FirstBad bad input d (first bad input)
 six-first A E bad input asked out wanted d e =
-    let l : first bad input < length input = ltb-true (first bad input) (length input) (six A E bad input asked out wanted .1 e) in
+    let n = refused-in-turn A E bad input asked out wanted .six .0 e .1 .1 .1 in
+    let l : first bad input < length input = omega (arith, first-le bad input, n) in
     record { inside = l; itself = at-first bad input d l; before = before-first bad input d }

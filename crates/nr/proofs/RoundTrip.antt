@@ -11,23 +11,22 @@ use lib.ListN.{length, getD, List·getD-eq-default}
 use lib.Seq.{ext-getD}
 use Rattle.nr.specs.declared.RateMatching.{RateMatching}
 use Rattle.nr.specs.declared.RateMatching.the-variants.{Repetition, Puncturing, Shortening}
-use Rattle.nr.specs.Rows.{count, has, place, entries, Bits}
+use Rattle.nr.specs.Rows.{count, has, place, entries, Bits, ascending}
 use Rattle.nr.specs.Parity.{attach, maskRnti}
 use Rattle.nr.specs.Interleaver.{interleave, deinterleave}
 use Rattle.nr.specs.Construction.{unsent, Layout}
 use Rattle.nr.specs.Transform.{transform}
-use Rattle.nr.specs.RateMatching.{select}
+use Rattle.nr.specs.RateMatching.{select, Fits}
 use Rattle.nr.specs.Scrambling.{gold}
 use Rattle.nr.specs.SuccessiveDecoder.{descramble, codeRow, marks}
 use Rattle.nr.specs.Coding.{placed, codeWord, coded}
 use Rattle.nr.specs.Decoding.{decided, received}
-use Rattle.nr.proofs.Tests.{ascending, holds}
+use Rattle.nr.proofs.Tests.{holds}
 use Rattle.nr.proofs.Rows.{length-table, getD-table, length-entries, getD-entries, has-getD, place-absent, place-getD, ascending-distinct}
 use Rattle.nr.proofs.Zip.{bits-entries, length-xors, getD-xors, bits-xors}
 use Rattle.nr.proofs.Parity.{length-attach, bits-attach, length-maskRnti, bits-maskRnti, maskRnti-twice}
 use Rattle.nr.proofs.Interleaver.{length-interleave, bits-interleave, length-deinterleave, deinterleave-interleave}
 use Rattle.nr.proofs.Transform.{Each, Down, bits-transform}
-use Rattle.nr.proofs.Gather.{Fits}
 use Rattle.nr.proofs.SuccessiveDecoder.{Sign, Frozen, Unchosen, noiseless}
 use Rattle.nr.proofs.SubBlocks.{punctured-down}
 use Rattle.nr.proofs.SoftRows.{length-descramble, getD-descramble, length-codeRow}

@@ -11,8 +11,8 @@ use lib.Dec.{T, ltb, eqb, eqb→eq, lt→ltb, ltb→lt, T-not}
 use lib.ListN.{length, getD, drop, length-map}
 use lib.Seq.{getD-append-add}
 use borrow.Author.Tests.{eqb-false, ne-eqb, eq-eqb}
-use Rattle.nr.specs.Rows.{count, has, keep, place, entries, same}
-use Rattle.nr.proofs.Tests.{all, distinct, ascending, left, right, pair, is, isn't, off, holds, here, there, cases, all-has, all-from}
+use Rattle.nr.specs.Rows.{count, has, keep, place, entries, same, all, ascending}
+use Rattle.nr.proofs.Tests.{distinct, left, right, pair, is, isn't, off, holds, here, there, cases, all-has, all-from}
 
 -- ---- ranges, and rows that are a function of the place
 

@@ -9,14 +9,15 @@ use lib.IntN.{ℤ, pos, negℤ, natAbs, +ℤ-idl, +ℤ-comm, +ℤ-assoc}
 use lib.ListN.{length, getD, take, drop, replicate, length-append, length-take, length-drop, length-replicate}
 use Rattle.nr.specs.declared.RateMatching.{RateMatching}
 use Rattle.nr.specs.declared.RateMatching.the-variants.{Repetition, Puncturing, Shortening}
-use Rattle.nr.specs.Rows.{count, place}
-use Rattle.nr.specs.Construction.{J}
-use Rattle.nr.specs.SuccessiveDecoder.{negateIf, descramble, plus, addUp, certain, gather, codeRow}
-use Rattle.nr.proofs.Ints.{Within, natAbs-neg, natAbs-add, within-take, within-drop, within-append, within-replicate, within-map}
+use Rattle.nr.specs.Rows.{count, place, Within}
+use Rattle.nr.specs.Construction.{J, rank}
+use Rattle.nr.specs.SuccessiveDecoder.{negateIf, descramble, plus, addUp, certain, gather, codeRow, byPosition}
+use Rattle.nr.specs.RateMatching.{Fits}
+use Rattle.nr.proofs.Ints.{natAbs-neg, natAbs-add, within-take, within-drop, within-append, within-replicate, within-map}
 use Rattle.nr.proofs.Rows.{length-table, getD-table}
 use Rattle.nr.proofs.Zip.{length-zipWith, getD-zipWith}
-use Rattle.nr.proofs.SubBlocks.{rank, place-J}
-use Rattle.nr.proofs.Gather.{Fits, plus-at}
+use Rattle.nr.proofs.SubBlocks.{place-J}
+use Rattle.nr.proofs.Gather.{plus-at}
 
 -- ---- scrambling undone
 
@@ -126,10 +127,6 @@ module _ (N : ℕ) (row : List ℤ) where
       within-append (2 ^ 20) (replicate (N - E) (pos 0)) row (within-replicate (2 ^ 20) (N - E) (pos 0) (omega arith)) (λ i. omega (arith, w i)) k
   gather-within Shortening E h w k =
       within-append (2 ^ 20) row (replicate (N - E) certain) (λ i. omega (arith, w i)) (within-replicate (2 ^ 20) (N - E) certain (omega arith)) k
-
--- a row by sub-block order, by position: what stands at i goes to J(i)
-abbrev pub byPosition : ℕ → List ℤ → List ℤ
-byPosition N y = map (λ p. getD y (place p (map (J N) (count 0 N))) (pos 0)) (count 0 N)
 
 pub length-byPosition : (N : ℕ) (y : List ℤ) → length (byPosition N y) ≡ N
 length-byPosition N y = length-table (λ p. getD y (place p (map (J N) (count 0 N))) (pos 0)) 0 N

@@ -12,9 +12,9 @@ use lib.ListN.{getD}
 use lib.Arith.{digits-div, digits-mod, digits-lt}
 use lib.Pow.{pow-pos, pow-add, shr-shr, pow-mono}
 use borrow.Author.Tests.{ltb-true, ltb-false}
-use Rattle.nr.specs.Rows.{count, has, place, bit}
-use Rattle.nr.specs.Construction.{P, J}
-use Rattle.nr.proofs.Tests.{all, left, right, all-count, has-count}
+use Rattle.nr.specs.Rows.{count, has, place, bit, all}
+use Rattle.nr.specs.Construction.{P, J, rank}
+use Rattle.nr.proofs.Tests.{left, right, all-count, has-count}
 use Rattle.nr.proofs.Rows.{mapped, source, ranged, place-first, length-table, getD-table}
 use Rattle.nr.proofs.Transform.{Down, Up}
 
@@ -50,10 +50,6 @@ rise-at e b he hb z =
     leb→le (place b P) (place (b + 2 ^ e) P) (rw z at t)
 
 -- ---- J and its inverse
-
--- the i with J(i) = p
-unfoldable pub rank : ℕ → ℕ → ℕ
-rank k p = place (p / 2 ^ k) P * 2 ^ k + p % 2 ^ k
 
 module _ (k : ℕ) where
   size : 2 ^ (k + 5) ≡ 2 ^ k * 32

@@ -3,27 +3,17 @@
 use Prim.Native.Nat.{ℕ, zero, suc, _+_, _≤_, _<_}
 use native.Mathlib.Omega.{arith}
 use mathlib.Core.Path.{_≡_, refl, sym, subst}
-use mathlib.Core.Logic.{_⊎_, inl, inr}
+use mathlib.Core.Logic.{_⊎_, inl, inr, _↔_}
 use mathlib.Core.Bool.{Bool, true, false, not, _&&_, _||_}
 use mathlib.Core.List.{List, [], _∷_}
-use lib.Dec.{T, eqb, ltb, eqb→eq, eqb-refl}
+use lib.Dec.{T, eqb, eqb→eq, eqb-refl}
 use borrow.Author.Tests.{eqb-false}
-use Rattle.nr.specs.Rows.{count, has}
-
--- each entry passes
-abbrev pub all : (ℕ → Bool) → List ℕ → Bool
-all f [] = true
-all f (x ∷ xs) = f x && all f xs
+use Rattle.nr.specs.Rows.{count, has, all}
 
 -- no entry stands twice
 abbrev pub distinct : List ℕ → Bool
 distinct [] = true
 distinct (x ∷ xs) = not (has x xs) && distinct xs
-
--- each entry is below all that come after it
-abbrev pub ascending : List ℕ → Bool
-ascending [] = true
-ascending (x ∷ xs) = all (λ y. ltb x y) xs && ascending xs
 
 -- ---- truth of a test
 
@@ -73,6 +63,14 @@ alike false false f g = refl
 
 pub clash : {X : Type 0} {b : Bool} → b ≡ true → b ≡ false → X
 clash {X} {b} e e′ = absurd (subst T e′ (holds e))
+
+pub either : (a b : Bool) → a || b ≡ true → (a ≡ true) ⊎ (b ≡ true)
+either true b e = inl refl
+either false b e = inr e
+
+pub neither : (a b : Bool) → (a || b ≡ false) ↔ ((a ≡ false) × (b ≡ false))
+neither true b = (λ e. clash refl e, λ n. n .0)
+neither false b = (λ e. (refl, e), λ n. n .1)
 
 -- ---- entries
 

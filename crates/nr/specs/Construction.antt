@@ -7,7 +7,7 @@ use lib.Dec.{leb, ltb}
 use lib.ListN.{getD}
 use Rattle.nr.specs.declared.RateMatching.{RateMatching}
 use Rattle.nr.specs.declared.RateMatching.the-variants.{Repetition, Puncturing, Shortening}
-use Rattle.nr.specs.Rows.{count, keep, has, last}
+use Rattle.nr.specs.Rows.{count, keep, has, place, last}
 use Rattle.nr.specs.Reliability.{reliability}
 
 -- the least m from `m` on with x ≤ 2 ^ m, at most `most` further
@@ -35,6 +35,10 @@ n K E = max (min (min (n1 K E) (n2 K)) 9) 5
 abbrev pub N : ℕ → ℕ → ℕ
 N K E = 2 ^ n K E
 
+-- n where A and E are accepted (`n-by-length`): the least that holds E bits, at most 9
+abbrev pub exponent : ℕ → ℕ
+exponent E = min (log2up E) 9
+
 -- K/E is at most 7/16, in whole numbers
 unfoldable pub lowRate : ℕ → ℕ → Bool
 lowRate K E = leb (16 * K) (7 * E)
@@ -52,6 +56,10 @@ P =
 -- J(i), the sub-block interleaver, for the code length N
 unfoldable pub J : ℕ → ℕ → ℕ
 J N i = getD P (32 * i / N) 0 * (N / 32) + i % (N / 32)
+
+-- for N = 2 ^ (k + 5), the i with J(i) = p
+unfoldable pub rank : ℕ → ℕ → ℕ
+rank k p = place (p / 2 ^ k) P * 2 ^ k + p % 2 ^ k
 
 -- the positions that are never sent: J(0) .. J(N-E-1) punctured, J(E) .. J(N-1) shortened
 unfoldable pub unsent : RateMatching → ℕ → ℕ → List ℕ

@@ -1,5 +1,5 @@
 -- What a reader must believe: document 01, a module for each of its sections, in its order.
--- Rows is the vocabulary; Coding and Decoding put the sections together; Demand3 says that the two belong together.
+-- Rows is the vocabulary; Coding and Decoding put the sections together; Promise3 says that the two belong together.
 pub mod Rows
 pub mod Numbers
 pub mod Answer
@@ -13,6 +13,6 @@ pub mod Scrambling
 pub mod SuccessiveDecoder
 pub mod Coding
 pub mod Decoding
-pub mod Demand3
+pub mod Promise3
 pub mod Loopback
 pub mod Describing

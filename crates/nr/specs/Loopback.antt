@@ -1,17 +1,19 @@
 -- The self-test: a payload is coded, each coded bit becomes a soft value with its sign and the caller's strength, and that row is
 -- decoded under the same numbers. Its outcome, for all inputs; the numbers 1 to 6 keep their order.
 -- Assumes nothing.
-use Prim.Native.Nat.{ℕ, _+_}
-use mathlib.Core.Bool.{Bool, cond, not, _||_}
+use Prim.Native.Nat.{ℕ, _+_, _<_}
+use mathlib.Core.Path.{_≡_}
+use mathlib.Core.Bool.{Bool, false, cond, not, _||_}
 use mathlib.Core.List.{List, [], _∷_}
 use lib.Dec.{eqb, ltb}
 use lib.IntN.{ℤ, pos}
 use lib.Signed.{ltZ}
-use lib.ListN.{length}
+use lib.ListN.{length, getD}
 use Rattle.nr.specs.declared.Numbers.{Numbers}
 use Rattle.nr.specs.Rows.{first}
 use Rattle.nr.specs.Answer.{firstOf, tests, Outcome, outcome}
 use Rattle.nr.specs.Coding.{badByte}
+use Rattle.nr.specs.Promise3.{Accepted, Payload}
 
 -- a strength outside 1..127
 unfoldable pub badStrength : ℤ → Bool
@@ -32,3 +34,11 @@ looped s payload strengths out =
     ∷ []
     )))
     (cond inPayload byte (s .a + strength)) payload out
+
+-- where promise 3 speaks: accepted numbers, a payload, E strengths in 1..127, an output of A bytes
+pub record Loops (s : Numbers) (payload : List ℕ) (strengths : List ℤ) (out : List ℕ) : Type 0 where
+  pub numbers : Accepted s
+  pub input : Payload s payload
+  pub size : length strengths ≡ s .e
+  pub strong : (k : ℕ) → k < s .e → badStrength (getD strengths k (pos 0)) ≡ false
+  pub output : length out ≡ s .a

@@ -1,11 +1,17 @@
 -- Document 01, "Transform, selection, scrambling": bit selection (38.212 5.4.1).
 -- Assumes nothing.
-use Prim.Native.Nat.{ℕ, _+_, _-_, _%_}
+use Prim.Native.Nat.{ℕ, _+_, _-_, _%_, _≤_, _<_}
 use mathlib.Core.List.{List, map}
 use Rattle.nr.specs.declared.RateMatching.{RateMatching}
 use Rattle.nr.specs.declared.RateMatching.the-variants.{Repetition, Puncturing, Shortening}
 use Rattle.nr.specs.Rows.{count, entries}
 use Rattle.nr.specs.Construction.{J}
+
+-- what the kind says of N and E
+abbrev pub Fits : RateMatching → ℕ → ℕ → Type 0
+Fits Repetition N E = N ≤ E
+Fits Puncturing N E = E < N
+Fits Shortening N E = E < N
 
 -- y_i = d at J(i)
 unfoldable pub subBlocks : ℕ → List ℕ → List ℕ

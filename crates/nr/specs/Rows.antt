@@ -3,7 +3,8 @@
 use Prim.Native.Nat.{ℕ, zero, suc, _+_, _-_, _/_, _%_, _^_, _≤_}
 use mathlib.Core.Bool.{Bool, true, false, cond, _&&_, _||_}
 use mathlib.Core.List.{List, [], _∷_, map, zipWith}
-use lib.Dec.{eqb}
+use lib.Dec.{eqb, ltb}
+use lib.IntN.{ℤ, pos, natAbs}
 use lib.ListN.{length, getD, drop}
 
 -- a, a + 1, ..: k numbers
@@ -15,6 +16,16 @@ count a (suc k) = a ∷ count (suc a) k
 abbrev pub keep : (ℕ → Bool) → List ℕ → List ℕ
 keep f [] = []
 keep f (x ∷ xs) = cond (f x) (x ∷ keep f xs) (keep f xs)
+
+-- each entry passes the test
+abbrev pub all : (ℕ → Bool) → List ℕ → Bool
+all f [] = true
+all f (x ∷ xs) = f x && all f xs
+
+-- each entry is below all that come after it
+abbrev pub ascending : List ℕ → Bool
+ascending [] = true
+ascending (x ∷ xs) = all (λ y. ltb x y) xs && ascending xs
 
 -- x is an entry
 abbrev pub has : ℕ → List ℕ → Bool
@@ -59,6 +70,10 @@ msbFirst (suc k) x = bit k x ∷ msbFirst k x
 -- a row of bits: each entry is 0 or 1
 abbrev pub Bits : List ℕ → Type 0
 Bits row = (k : ℕ) → getD row k 0 ≤ 1
+
+-- a row of whole numbers of magnitude at most b
+abbrev pub Within : ℕ → List ℤ → Type 0
+Within b row = (k : ℕ) → natAbs (getD row k (pos 0)) ≤ b
 
 -- addition mod 2: of two bits, of two rows of bits place by place
 abbrev pub xor : ℕ → ℕ → ℕ

@@ -41,12 +41,15 @@ gather Repetition N E row = addUp N (suc (E / N)) row
 gather Puncturing N E row = replicate (N - E) (pos 0) ++ row
 gather Shortening N E row = row ++ replicate (N - E) certain
 
--- the same by code position: what came for J(i) stands at position J(i)
-unfoldable pub codeRow : RateMatching → ℕ → ℕ → List ℤ → List ℤ
-codeRow kind N E row =
-    let y : List ℤ = gather kind N E row in
+-- a row by sub-block order, by code position: what came for J(i) stands at position J(i)
+abbrev pub byPosition : ℕ → List ℤ → List ℤ
+byPosition N y =
     let order : List ℕ = map (J N) (count 0 N) in
     map (λ p. getD y (place p order) (pos 0)) (count 0 N)
+
+-- the decoder's row of N values
+unfoldable pub codeRow : RateMatching → ℕ → ℕ → List ℤ → List ℤ
+codeRow kind N E row = byPosition N (gather kind N E row)
 
 -- the smaller magnitude with the product of the signs, 0 if either is 0
 unfoldable pub f : ℤ → ℤ → ℤ

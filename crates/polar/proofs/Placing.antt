@@ -11,9 +11,9 @@ use lib.Dec.{T, eqb, not-T}
 use lib.ListN.{length, getD, set, take, replicate, length-set, length-replicate, getD-replicate}
 use lib.Seq.{ext-getD, take-suc, length-take-le, getD-set-same, getD-set-other, getD-take}
 use borrow.Author.Tests.{eqb-true, eqb-false}
-use Rattle.nr.specs.Rows.{has, place}
+use Rattle.nr.specs.Rows.{has, place, ascending}
 use Rattle.nr.specs.Coding.{placed}
-use Rattle.nr.proofs.Tests.{ascending, isn't}
+use Rattle.nr.proofs.Tests.{isn't}
 use Rattle.nr.proofs.Rows.{place-has, apart, ascending-distinct}
 use Rattle.nr.proofs.RoundTrip.{length-placed, placed-at, placed-off}
 

@@ -5,9 +5,8 @@ use mathlib.Core.List.{List}
 use lib.Dec.{T}
 use lib.ListN.{length}
 use Rattle.nr.specs.declared.RateMatching.{RateMatching}
-use Rattle.nr.specs.Rows.{has}
+use Rattle.nr.specs.Rows.{has, ascending}
 use Rattle.nr.specs.Construction.{Layout}
-use Rattle.nr.proofs.Tests.{ascending}
 
 -- at most 164, ascending, below N
 pub record Positions (N : ℕ) (positions : List ℕ) : Type 0 where

@@ -17,9 +17,10 @@ use lib.Seq.{ext-getD, getD-take, getD-drop}
 use borrow.Author.Tests.{eqb-true, eqb-false}
 use borrow.Rule.Slice.PartMut.{putMid, same-len-mid, mid-len}
 use Rattle.nr.specs.Rows.{place}
-use Rattle.nr.specs.Construction.{P}
-use Rattle.nr.proofs.SubBlocks.{rank, inside, forth-at, back-at}
-use Rattle.nr.proofs.SoftRows.{byPosition, length-byPosition, getD-byPosition}
+use Rattle.nr.specs.Construction.{P, rank}
+use Rattle.nr.specs.SuccessiveDecoder.{byPosition}
+use Rattle.nr.proofs.SubBlocks.{inside, forth-at, back-at}
+use Rattle.nr.proofs.SoftRows.{length-byPosition, getD-byPosition}
 use Rattle.rows.proofs.Parts.{part-in, part-before, part-behind}
 
 -- the table has 32 entries

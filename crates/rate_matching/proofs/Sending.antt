@@ -9,9 +9,8 @@ use lib.Seq.{length-take-le, getD-take, getD-drop, ext-getD}
 use Rattle.nr.specs.declared.RateMatching.{RateMatching}
 use Rattle.nr.specs.declared.RateMatching.the-variants.{Repetition, Puncturing, Shortening}
 use Rattle.nr.specs.Rows.{count, entries}
-use Rattle.nr.specs.RateMatching.{subBlocks, selected, select}
+use Rattle.nr.specs.RateMatching.{subBlocks, selected, select, Fits}
 use Rattle.nr.proofs.Rows.{length-picked, getD-picked}
-use Rattle.nr.proofs.Gather.{Fits}
 use Rattle.nr.proofs.Matching.{length-subBlocks}
 use Rattle.rows.proofs.Parts.{front-back, front-room}
 use Rattle.rate_matching.proofs.Pieces.{cycle}

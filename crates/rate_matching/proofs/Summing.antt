@@ -12,7 +12,8 @@ use lib.Seq.{take-all, drop-drop, length-take-le}
 use mir.Syntax.{w32}
 use mir.Val.{SFits, toZ, ofZ}
 use Rattle.nr.specs.SuccessiveDecoder.{plus, addUp}
-use Rattle.nr.proofs.Ints.{Within, within-take, within-drop, within-replicate, sum-fits, sum-is}
+use Rattle.nr.specs.Rows.{Within}
+use Rattle.nr.proofs.Ints.{within-take, within-drop, within-replicate, sum-fits, sum-is}
 use Rattle.nr.proofs.Gather.{plus-at}
 use Rattle.nr.proofs.SoftRows.{plus-comm, plus-assoc, plus-zeros, plus-within, length-plus, length-total}
 

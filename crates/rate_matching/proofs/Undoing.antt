@@ -10,9 +10,9 @@ use lib.Seq.{length-take-le}
 use borrow.Rule.Slice.PartMut.{putMid, mid-len}
 use Rattle.nr.specs.declared.RateMatching.{RateMatching}
 use Rattle.nr.specs.declared.RateMatching.the-variants.{Repetition, Puncturing, Shortening}
-use Rattle.nr.specs.SuccessiveDecoder.{certain, gather, codeRow}
-use Rattle.nr.proofs.Gather.{Fits}
-use Rattle.nr.proofs.SoftRows.{byPosition, codeRow-is, length-gather}
+use Rattle.nr.specs.SuccessiveDecoder.{certain, gather, codeRow, byPosition}
+use Rattle.nr.specs.RateMatching.{Fits}
+use Rattle.nr.proofs.SoftRows.{codeRow-is, length-gather}
 use Rattle.rows.proofs.Parts.{two-parts, take-replicate, front-back, front-room}
 use Rattle.rate_matching.proofs.Summing.{total}
 

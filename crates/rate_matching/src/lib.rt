@@ -5,13 +5,10 @@ ghost use mathlib.Core.List.{map};
 ghost use Prim.Native.Nat.{_≤_, _<_, _%_, _^_};
 ghost use lib.IntN.{pos};
 ghost use lib.ListN.{length, replicate};
-ghost use Rattle.nr.specs.Rows.{count, entries};
+ghost use Rattle.nr.specs.Rows.{count, entries, Within};
 ghost use Rattle.nr.specs.Construction.{P};
-ghost use Rattle.nr.specs.RateMatching.{subBlocks, selected, select};
-ghost use Rattle.nr.specs.SuccessiveDecoder.{plus, certain, gather, codeRow};
-ghost use Rattle.nr.proofs.Gather.{Fits};
-ghost use Rattle.nr.proofs.Ints.{Within};
-ghost use Rattle.nr.proofs.SoftRows.{byPosition};
+ghost use Rattle.nr.specs.RateMatching.{subBlocks, selected, select, Fits};
+ghost use Rattle.nr.specs.SuccessiveDecoder.{plus, certain, gather, codeRow, byPosition};
 
 // P: which of the code word's 32 sub-blocks comes first, second, .. (Table 5.4.1.1-1).
 const SUB_BLOCKS: [u8; 32] = [

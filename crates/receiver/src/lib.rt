@@ -4,13 +4,12 @@ use nr::RateMatching;
 ghost use mathlib.Core.Path.{_≡_};
 ghost use Prim.Native.Nat.{_≤_, _<_, _^_};
 ghost use lib.ListN.{length, replicate};
-ghost use Rattle.nr.specs.Rows.{entries};
+ghost use Rattle.nr.specs.Rows.{entries, Within};
 ghost use Rattle.nr.specs.Interleaver.{deinterleave};
 ghost use Rattle.nr.specs.Scrambling.{gold};
 ghost use Rattle.nr.specs.SuccessiveDecoder.{descramble, codeRow, successive, marks};
 ghost use Rattle.nr.specs.Decoding.{decided};
-ghost use Rattle.nr.proofs.Gather.{Fits};
-ghost use Rattle.nr.proofs.Ints.{Within};
+ghost use Rattle.nr.specs.RateMatching.{Fits};
 ghost use Rattle.polar.specs.Codes.{Positions, code};
 ghost use Rattle.successive_decoder.specs.Levels.{rowOf};
 

@@ -8,10 +8,10 @@ use lib.IntN.{ℤ, pos, natAbs}
 use lib.ListN.{length, getD, take, replicate}
 use mir.Syntax.{w32}
 use mir.Val.{toZ, ofZ}
-use Rattle.nr.specs.Rows.{xors, Bits}
+use Rattle.nr.specs.Rows.{xors, Bits, Within}
 use Rattle.nr.specs.Scrambling.{gold}
 use Rattle.nr.specs.SuccessiveDecoder.{negateIf, descramble}
-use Rattle.nr.proofs.Ints.{Within, back}
+use Rattle.nr.proofs.Ints.{back}
 use Rattle.nr.proofs.SoftRows.{natAbs-negateIf, getD-descramble}
 use Rattle.nr.proofs.Scrambling.{length-gold, bits-gold}
 use Rattle.nr.proofs.Zip.{xors-comm, xors-zeros, bits-replicate}

@@ -3,10 +3,9 @@ ghost use mathlib.Core.Path.{_≡_};
 ghost use Prim.Native.Nat.{_≤_, _<_, _^_};
 ghost use lib.IntN.{natAbs};
 ghost use lib.ListN.{length};
-ghost use Rattle.nr.specs.Rows.{xors, Bits};
+ghost use Rattle.nr.specs.Rows.{xors, Bits, Within};
 ghost use Rattle.nr.specs.Scrambling.{step1, step2, after, terms, gold};
 ghost use Rattle.nr.specs.SuccessiveDecoder.{negateIf, descramble};
-ghost use Rattle.nr.proofs.Ints.{Within};
 ghost use Rattle.scrambling.specs.Nibbles.{digits};
 
 // The two 31-bit registers of the sequence: a register's lowest bit is the first to go out.

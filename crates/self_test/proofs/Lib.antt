@@ -1,2 +1,2 @@
--- Laws of the self-test, from its checks and from demand 3.
+-- Laws of the self-test, from its checks and from promise 3.
 pub mod Looping

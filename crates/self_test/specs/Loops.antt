@@ -13,6 +13,6 @@ use Rattle.nr.specs.Coding.{coding}
 abbrev pub signed : Numbers → List ℕ → List ℤ → List ℤ
 signed s payload strengths = descramble (coding s payload (replicate (s .e) 0) .buffer) strengths
 
--- what demand 3 promises
+-- what promise 3 promises
 abbrev pub found : List ℕ → Outcome
 found payload = record { number = 0; place = 0; buffer = payload }

@@ -1,13 +1,12 @@
-// The self-test: a payload is coded and its noiseless row decoded. Demand 3, run.
+// The self-test: a payload is coded and its noiseless row decoded. Promise 3, run.
 use nr::Answer;
 use nr::Numbers;
 ghost use mathlib.Core.Path.{_≡_};
 ghost use Prim.Native.Nat.{_≤_};
 ghost use lib.ListN.{length};
 ghost use Rattle.nr.specs.Answer.{given};
-ghost use Rattle.nr.specs.Loopback.{looped};
-ghost use Rattle.nr.proofs.Ints.{Within};
-ghost use Rattle.nr.proofs.Loopback.{Loops};
+ghost use Rattle.nr.specs.Loopback.{looped, Loops};
+ghost use Rattle.nr.specs.Rows.{Within};
 ghost use Rattle.self_test.specs.Loops.{signed, found};
 
 // A noiseless row for the payload: each coded bit with its sign and the caller's strength.
@@ -21,7 +20,7 @@ fn sign(numbers: Numbers, payload: &[u8], strengths: &[i32], soft: &mut [i32])
     scrambling::negate(&sent[..e], strengths, soft);
 }
 
-// Codes the payload and decodes its noiseless row: demand 3, run.
+// Codes the payload and decodes its noiseless row: promise 3, run.
 fn through(numbers: Numbers, payload: &[u8], strengths: &[i32], out: &mut [u8]) -> Answer
     requires { ⌜ Loops numbers (now payload) (now strengths) (now out) ⌝ }
     ensures { λ r. ⌜ given r (now (out .exit)) ≡ found (now (payload .entry)) ⌝ }

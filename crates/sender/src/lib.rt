@@ -9,7 +9,7 @@ ghost use Rattle.nr.specs.Parity.{attach, maskRnti};
 ghost use Rattle.nr.specs.Interleaver.{interleave};
 ghost use Rattle.nr.specs.Transform.{transform};
 ghost use Rattle.nr.specs.Coding.{placed, coded};
-ghost use Rattle.nr.proofs.Gather.{Fits};
+ghost use Rattle.nr.specs.RateMatching.{Fits};
 ghost use Rattle.polar.specs.Codes.{Positions, code};
 
 // The bits for the information positions: the payload with its parity, the RNTI added, interleaved.

@@ -10,7 +10,8 @@ use lib.IntN.{ℤ, pos, negsuc, negℤ, natAbs}
 use lib.ListN.{length, getD, take, drop, length-drop, List·getD-eq-default}
 use lib.Seq.{getD-take, getD-drop, length-take-le}
 use Rattle.nr.specs.SuccessiveDecoder.{f, g, fs, gs}
-use Rattle.nr.proofs.Ints.{Within, natAbs-neg, natAbs-add}
+use Rattle.nr.specs.Rows.{Within}
+use Rattle.nr.proofs.Ints.{natAbs-neg, natAbs-add}
 use Rattle.nr.proofs.SuccessiveDecoder.{getD-fs, getD-gs}
 use Rattle.successive_decoder.specs.Levels.{Bound}
 

@@ -12,7 +12,7 @@ use mir.Syntax.{w32}
 use mir.Val.{SFits, toZ, ofZ}
 use mir.ValLaws.{toZ-ofZ}
 use Rattle.nr.specs.SuccessiveDecoder.{f, g, fs, gs}
-use Rattle.nr.proofs.Ints.{Within}
+use Rattle.nr.specs.Rows.{Within}
 use Rattle.nr.proofs.SuccessiveDecoder.{length-fs, getD-fs, length-gs, getD-gs}
 use Rattle.nodes.specs.Small.{Small}
 use Rattle.nodes.proofs.Nodes.{passed₂, small-passed, small-fits}

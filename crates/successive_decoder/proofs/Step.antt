@@ -12,10 +12,10 @@ use lib.Seq.{length-take-le, take-at, drop-at, drop-drop, take-all, getD-take, g
 use borrow.Rule.Slice.PartMut.{putMid}
 use mir.Syntax.{w32}
 use mir.Val.{SFits}
-use Rattle.nr.specs.Rows.{xors, Bits}
+use Rattle.nr.specs.Rows.{xors, Bits, Within}
 use Rattle.nr.specs.Transform.{transform}
 use Rattle.nr.specs.SuccessiveDecoder.{fs, gs, decide, successive}
-use Rattle.nr.proofs.Ints.{Within, fits}
+use Rattle.nr.proofs.Ints.{fits}
 use Rattle.nr.proofs.Transform.{bits-transform}
 use Rattle.nr.proofs.SuccessiveDecoder.{bits-successive}
 use Rattle.nr.proofs.Zip.{bits-append}

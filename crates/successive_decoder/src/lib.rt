@@ -4,7 +4,7 @@ ghost use Prim.Native.Nat.{_*_, _≤_, _^_};
 ghost use lib.ListN.{length, take, drop};
 ghost use Rattle.nr.specs.Transform.{transform};
 ghost use Rattle.nr.specs.SuccessiveDecoder.{fs, gs, successive};
-ghost use Rattle.nr.proofs.Ints.{Within};
+ghost use Rattle.nr.specs.Rows.{Within};
 ghost use Rattle.successive_decoder.specs.Levels.{rowOf, Ready};
 
 // `work` has a row of M values at M .. 2M, for every M = 2^n at once. This makes the row of `half` values by f from the row of

@@ -4,7 +4,7 @@ use Prim.Native.Nat.{ℕ, _+_, _-_, _*_, _%_, _^_, _<_}
 use native.Mathlib.Omega.{arith}
 use mathlib.Core.Path.{_≡_, subst, ap, _∙_}
 use lib.Dec.{ltb}
-use Rattle.nr.proofs.SubBlocks.{rank}
+use Rattle.nr.specs.Construction.{rank}
 use Rattle.nr.proofs.Words.{shl-one}
 use Rattle.admission.proofs.Ranks.{past, early, low, rest}
 use borrow.Author.Needs.{needs}

@@ -5,7 +5,7 @@ use native.Mathlib.Nat.{div-mul-le-self}
 use native.Mathlib.Omega.{arith}
 use mathlib.Core.Path.{_≡_, ap}
 use lib.ListN.{length, getD}
-use Rattle.nr.proofs.SubBlocks.{rank}
+use Rattle.nr.specs.Construction.{rank}
 use Rattle.admission.proofs.Ranks.{ranks-length, block-lt, block-start, rank-is, rank-fits}
 use borrow.Author.Needs.{needs}
 use Rattle.admission.proofs.rank.Statement.{statement}

@@ -8,8 +8,8 @@ use lib.ListN.{getD}
 use borrow.Rule.Slice.PartMut.{mid-len}
 use Rattle.nr.proofs.Words.{shl-one}
 use Rattle.nr.specs.Construction.{P}
+use Rattle.nr.specs.SuccessiveDecoder.{byPosition}
 use Rattle.nr.proofs.SubBlocks.{forth-at}
-use Rattle.nr.proofs.SoftRows.{byPosition}
 use Rattle.rate_matching.proofs.Shifts.{code-le}
 use Rattle.rate_matching.proofs.Moving.{Moving, moving, moving-more, moved, blocks-length, code-size, block-end}
 use Rattle.rate_matching.proofs.undo_sub_blocks.Statement.{statement}

@@ -8,8 +8,8 @@ use lib.IntN.{pos}
 use lib.ListN.{length, take, drop, replicate}
 use Rattle.nr.specs.Scrambling.{gold}
 use Rattle.nr.specs.SuccessiveDecoder.{descramble, codeRow}
-use Rattle.nr.proofs.Gather.{Fits}
-use Rattle.nr.proofs.Ints.{Within}
+use Rattle.nr.specs.RateMatching.{Fits}
+use Rattle.nr.specs.Rows.{Within}
 use Rattle.nr.proofs.SoftRows.{descramble-within}
 use Rattle.rows.proofs.Parts.{front-back, front-room, front-size}
 use Rattle.receiver.proofs.code_row.Statement.{statement}

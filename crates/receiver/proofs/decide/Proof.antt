@@ -12,7 +12,7 @@ use lib.Pow.{pow-mono}
 use Rattle.nr.specs.Scrambling.{gold}
 use Rattle.nr.specs.SuccessiveDecoder.{descramble, codeRow, marks, successive}
 use Rattle.nr.specs.Decoding.{decided}
-use Rattle.nr.proofs.Ints.{Within}
+use Rattle.nr.specs.Rows.{Within}
 use Rattle.nr.proofs.SoftRows.{length-codeRow, codeRow-within, descramble-within}
 use Rattle.successive_decoder.specs.Levels.{rowOf}
 use Rattle.receiver.proofs.Working.{row-in-place, whole}

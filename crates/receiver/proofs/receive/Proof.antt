@@ -9,7 +9,6 @@ use lib.ListN.{length, take, drop, replicate}
 use lib.Pow.{pow-mono}
 use Rattle.nr.specs.Rows.{entries}
 use Rattle.nr.specs.Interleaver.{deinterleave}
-use Rattle.nr.specs.Decoding.{decided}
 use Rattle.nr.proofs.Words.{shl-one}
 use Rattle.rows.proofs.Parts.{front-back, front-room, front-size}
 use Rattle.polar.specs.Codes.{Positions}

@@ -1,4 +1,4 @@
--- `self_test::through` meets its contract: demand 3 over the two calls.
+-- `self_test::through` meets its contract: promise 3 over the two calls.
 -- Assumes nothing.
 use Prim.Native.Nat.{ℕ, _≤_}
 use mathlib.Core.Path.{_≡_, sym, subst, ap, _∙_}

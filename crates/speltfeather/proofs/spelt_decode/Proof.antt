@@ -3,7 +3,7 @@
 use native.Mathlib.Omega.{arith}
 use borrow.Author.Needs.{needs}
 use Rattle.nr.specs.Decoding.{decoding}
-use Rattle.nr.proofs.Demand1.{decoding-place}
+use Rattle.nr.proofs.Promise1.{decoding-place}
 use Rattle.speltfeather.specs.Packed.{numbers}
 use Rattle.speltfeather.proofs.Packing.{returned, small}
 use Rattle.speltfeather.proofs.spelt_decode.Statement.{statement}

@@ -2,7 +2,7 @@
 -- Assumes nothing.
 use native.Mathlib.Omega.{arith}
 use Rattle.nr.specs.Coding.{coding}
-use Rattle.nr.proofs.Demand1.{coding-place}
+use Rattle.nr.proofs.Promise1.{coding-place}
 use Rattle.speltfeather.specs.Packed.{numbers}
 use Rattle.speltfeather.proofs.Packing.{returned, small}
 use borrow.Author.Needs.{needs}

@@ -1,6 +1,6 @@
--- Demand 3: coding gives 0, and from every noiseless row decoding under the same numbers gives 0 and exactly that payload.
+-- Promise 3: coding gives 0, and from every noiseless row decoding under the same numbers gives 0 and exactly that payload.
 -- With what document 01, "The job and its borders", says of accepted numbers, payloads and noiseless rows.
--- The statement; its proof is `demand3` of proofs/Demand3.antt.
+-- The statement; its proof is `promise3` of proofs/Promise3.antt.
 -- Assumes nothing.
 use mathlib.Core.Path.{_≡_}
 use mathlib.Core.Logic.{_≢_}
@@ -33,7 +33,7 @@ pub record Noiseless (s : Numbers) (sent : List ℕ) (soft : List ℤ) : Type 0 
   pub negative : (k : ℕ) → k < s .e → getD sent k 0 ≡ 1 → getD soft k (pos 0) <ℤ pos 0
 
 -- Of the RNTI and n_ID nothing is asked. `out` is the output buffer before coding, `out′` that before decoding.
-pub record Demand3 : Type 0 where
+pub record Promise3 : Type 0 where
   pub codes : (s : Numbers) (payload out : List ℕ) → Accepted s → Payload s payload → length out ≡ s .e
       → coding s payload out .number ≡ 0
   pub decodes : (s : Numbers) (payload out : List ℕ) → Accepted s → Payload s payload → length out ≡ s .e

@@ -1,4 +1,4 @@
--- Demand 1 over the definitions. On every number but 0 the output buffer holds what it held, and only 6 carries a place, that of
+-- Promise 1 over the definitions. On every number but 0 the output buffer holds what it held, and only 6 carries a place, that of
 -- the first bad entry; on 0 the buffer holds the whole result: E bits of coding, A bits of decoding. And when 0 and 7 are given.
 -- Assumes nothing.
 use Prim.Native.Nat.{ℕ, zero, suc, _≤_, _<_}
@@ -21,11 +21,11 @@ use Rattle.nr.specs.Construction.{Layout, layout}
 use Rattle.nr.specs.Scrambling.{cInit}
 use Rattle.nr.specs.Parity.{parityMatches}
 use Rattle.nr.specs.Coding.{badByte, codingFor, coding}
-use Rattle.nr.specs.Demand3.{Accepted, Payload}
+use Rattle.nr.specs.Promise3.{Accepted, Payload}
 use Rattle.nr.specs.Decoding.{received, orParity, badSoft, decodingFor, decoding}
 use Rattle.nr.proofs.Zip.{bits-take}
 use Rattle.nr.proofs.Construction.{Sized, accepted, positions}
-use Rattle.nr.proofs.Refusals.{longest, Passes, passes-exactly, at-most-six, first-none, before-first, FirstBad, six-first, six-sizes}
+use Rattle.nr.proofs.Refusals.{longest, InTurn, carried, refused-in-turn, Passes, passes-exactly, at-most-six, first-none, before-first, FirstBad, six-first, six-sizes}
 use Rattle.nr.proofs.Tests.{is, isn't}
 use Rattle.nr.proofs.RoundTrip.{length-coded, bits-coded, length-received, bits-received}
 
@@ -88,14 +88,22 @@ unmatched zero A b l e = (refl, go (parityMatches A b) e)
     go false e = tt
 unmatched (suc i) A b l e = let z : ⊥ = omega arith in absurd z
 
-not-parity : (i A : ℕ) (b : List ℕ) → orParity i A b ≡ 6 → i ≡ 6
+-- it leaves 1 to 6 as they are
+parity-later : (i A : ℕ) (b : List ℕ) (k : ℕ) → k < 6 → (orParity i A b ≡ suc k) ↔ (i ≡ suc k)
 unfolding orParity
-not-parity zero A b e = go (parityMatches A b) e
+parity-later zero A b k l = (λ e. go (parityMatches A b) e, λ e. absurd (suc-ne-zero k (sym e)))
   where
-    go : (t : Bool) → _≡_ {A = ℕ} (cond t 0 7) 6 → _≡_ {A = ℕ} 0 6
+    go : (t : Bool) → _≡_ {A = ℕ} (cond t 0 7) (suc k) → _≡_ {A = ℕ} 0 (suc k)
     go true e = e
     go false e = let z : ⊥ = omega arith in absurd z
-not-parity (suc i) A b e = e
+parity-later (suc i) A b k l = (λ e. e, λ e. e)
+
+-- each of 1 to 6 is given exactly where its test applies and none before it
+pub coding-in-turn : (s : Numbers) (payload out : List ℕ)
+    → InTurn (s .a) (s .e) (length payload ≡ s .a) (length out ≡ s .e) (first badByte payload ≡ length payload) (coding s payload out .number)
+unfolding coding codingFor
+coding-in-turn s payload out =
+    carried (λ k l. (λ e. sym (outcome-number _ _ _ out) ∙ e, λ e. outcome-number _ _ _ out ∙ e)) (refused-in-turn (s .a) (s .e) badByte payload (s .a) out (s .e))
 
 -- coding gives 0 exactly if the numbers are accepted, the payload is one, and the output has E bytes
 pub record CodingDone (s : Numbers) (payload out : List ℕ) : Type 0 where
@@ -164,6 +172,13 @@ module _ (s : Numbers) (soft : List ℤ) (out : List ℕ) where
         entries = first-none badSoft soft (pos 0) (λ k h. le-ltb 127 (natAbs (getD soft k (pos 0))) (r .range k (omega (arith, r .size))));
       })
 
+  pub decoding-in-turn : InTurn (s .a) (s .e) (length soft ≡ s .e) (length out ≡ s .a) (first badSoft soft ≡ length soft) (decoding s soft out .number)
+  unfolding decoding decodingFor
+  decoding-in-turn =
+      carried
+      (λ k l. let p = parity-later i (s .a) b k l in (λ e. p .0 (sym (outcome-number _ _ _ out) ∙ e), λ e. outcome-number _ _ _ out ∙ p .1 e))
+      (refused-in-turn (s .a) (s .e) badSoft soft (s .e) out (s .a))
+
   -- it then gives 0 exactly if the parity matches, and 7 exactly if it does not
   pub decoding-done : (decoding s soft out .number ≡ 0) ↔ (DecodingRuns s soft out × T (parityMatches (s .a) b))
   unfolding decoding decodingFor
@@ -209,12 +224,12 @@ unfolding decoding decodingFor
 decoding-bad s soft out e =
     let six : orParity (i s soft out) (s .a) (b s soft out) ≡ 6 = sym (outcome-number _ _ _ out) ∙ e in
     subst (FirstBad badSoft soft (pos 0)) (sym (outcome-place _ (first badSoft soft) _ out six))
-    (six-first (s .a) (s .e) badSoft soft (s .e) out (s .a) (pos 0) (not-parity (i s soft out) (s .a) (b s soft out) six))
+    (six-first (s .a) (s .e) badSoft soft (s .e) out (s .a) (pos 0) (parity-later (i s soft out) (s .a) (b s soft out) 5 (omega arith) .0 six))
 
 decoding-sizes : (s : Numbers) (soft : List ℤ) (out : List ℕ) → decoding s soft out .number ≡ 6 → (refusal (s .a) (s .e) ≡ 0) × (length soft ≡ s .e)
 unfolding decoding decodingFor
 decoding-sizes s soft out e =
-    six-sizes (s .a) (s .e) badSoft soft (s .e) out (s .a) (not-parity (i s soft out) (s .a) (b s soft out) (sym (outcome-number _ _ _ out) ∙ e))
+    six-sizes (s .a) (s .e) badSoft soft (s .e) out (s .a) (parity-later (i s soft out) (s .a) (b s soft out) 5 (omega arith) .0 (sym (outcome-number _ _ _ out) ∙ e))
 
 pub decoding-place : (s : Numbers) (soft : List ℤ) (out : List ℕ) → decoding s soft out .place < 1728
 decoding-place s soft out =

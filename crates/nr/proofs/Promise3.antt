@@ -1,4 +1,4 @@
--- Demand 3, whole, over `coding` and `decoding`; and that its hypotheses can be met.
+-- Promise 3, whole, over `coding` and `decoding`; and that its hypotheses can be met.
 -- Assumes nothing.
 use Prim.Native.Nat.{ℕ, zero, suc, _+_, _≤_, _<_}
 use native.Mathlib.Nat.{suc-ne-zero, not-suc-le-zero, le-of-suc-le-suc, lt-of-not-le}
@@ -23,14 +23,14 @@ use Rattle.nr.specs.Construction.{n, N, lowRate, rateMatching, front, un
 use Rattle.nr.specs.Scrambling.{cInit}
 use Rattle.nr.specs.Coding.{coded, badByte, codingFor, coding}
 use Rattle.nr.specs.Decoding.{received, orParity, badSoft, decodingFor, decoding}
-use Rattle.nr.specs.Demand3.{Accepted, Payload, Noiseless, Demand3, HypothesesMet}
+use Rattle.nr.specs.Promise3.{Accepted, Payload, Noiseless, Promise3, HypothesesMet}
+use Rattle.nr.specs.RateMatching.{Fits}
 use Rattle.nr.proofs.Tests.{is}
 use Rattle.nr.proofs.Rows.{getD-map, not-has-left}
 use Rattle.nr.proofs.Zip.{bits-replicate}
 use Rattle.nr.proofs.Parity.{accepts, attach-front}
 use Rattle.nr.proofs.SuccessiveDecoder.{Sign}
 use Rattle.nr.proofs.Construction.{Sized, accepted, positions}
-use Rattle.nr.proofs.Gather.{Fits}
 use Rattle.nr.proofs.Refusals.{first-none, passes-exactly}
 use Rattle.nr.proofs.RoundTrip.{length-coded, bits-coded, Sound, round-trip}
 
@@ -128,8 +128,8 @@ module _ (s : Numbers) (payload : List ℕ) (a : Accepted s) (p : Payload s payl
               entries = first-none badSoft soft (pos 0) (λ k h. le-ltb 127 (natAbs (getD soft k (pos 0))) (clean .range k (subst (λ (m : ℕ). k < m) (clean .size) h)));
             })
 
-pub demand3 : Demand3
-demand3 = record {
+pub promise3 : Promise3
+promise3 = record {
   codes = λ s payload out a p e. ap (λ (o : Outcome). o .number) (coding-is s payload a p out e);
   decodes = λ s payload out a p e soft out′ clean e′.
       decoding-is s payload a p soft out′
