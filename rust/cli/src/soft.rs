@@ -49,6 +49,13 @@ mod tests {
     }
 
     #[test]
+    fn brackets_semicolons_and_a_byte_order_mark_are_skipped() {
+        let read = read("\u{feff}[[1; -2]\n (3){4}; ]", "x").unwrap();
+        let values: Vec<(i32, usize)> = read.iter().map(|soft| (soft.value, soft.line)).collect();
+        assert_eq!(values, [(1, 1), (-2, 1), (3, 2), (4, 2)]);
+    }
+
+    #[test]
     fn what_is_no_number_is_named_with_its_line() {
         for word in ["1.5", "x", "2147483648", "--1"] {
             let said = read(&format!("1 2\n3 {word} 4"), "row.txt").unwrap_err();

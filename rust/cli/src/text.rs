@@ -149,6 +149,7 @@ pub fn wrapped(words: &[String], width: usize) -> Vec<String> {
 #[cfg(test)]
 mod tests {
     use super::*;
+    use channel::Random;
 
     #[test]
     fn digits_are_filled_up_behind() {
@@ -167,10 +168,51 @@ mod tests {
         // Three digits for 12 bits are hexadecimal, even where they look like bits.
         assert_eq!(payload("101", 12).unwrap(), hex_bits(0x101));
         assert_eq!(payload("0b101", 12).unwrap(), [1, 0, 1]);
+        assert_eq!(payload("0B101", 12).unwrap(), [1, 0, 1]);
+        assert_eq!(payload("0X101", 12).unwrap(), hex_bits(0x101));
     }
 
     fn hex_bits(value: u32) -> Vec<u8> {
         (0..12).rev().map(|i| (value >> i & 1) as u8).collect()
+    }
+
+    #[test]
+    fn what_is_printed_is_read_back() {
+        for value in 0..1 << 12 {
+            let bits = hex_bits(value);
+            assert_eq!(hex(&bits), format!("{value:03x}"));
+            assert_eq!(payload(&hex(&bits), 12).unwrap(), bits);
+        }
+        let mut random = Random::new(1);
+        for size in 12..=140 {
+            for first in 0..=255 {
+                let mut bits = random.bits(size);
+                bits[..8].copy_from_slice(&[7, 6, 5, 4, 3, 2, 1, 0].map(|i| first >> i & 1));
+                for text in [hex(&bits), format!("0x{}", hex(&bits)), digits(&bits)] {
+                    assert_eq!(payload(&text, size as u64).unwrap(), bits, "{text}");
+                }
+            }
+        }
+    }
+
+    #[test]
+    fn as_many_digits_as_fill_it_are_hexadecimal() {
+        let bits = payload("0b101", 20).unwrap();
+        assert_eq!(hex(&bits), "0b101");
+        assert_eq!(payload("0 b1_01", 20).unwrap(), bits);
+        assert!(payload("0b101", 19).is_err());
+        for size in [16, 21] {
+            assert_eq!(payload("0b101", size).unwrap(), [1, 0, 1]);
+        }
+    }
+
+    #[test]
+    fn what_is_shown_is_short_and_plain() {
+        assert_eq!(shown("it's \"ä\" \\"), "it's \"ä\" \\\\");
+        assert_eq!(shown("\u{1b}[2J\n\0"), "\\u{1b}[2J\\n\\0");
+        assert_eq!(shown("x".repeat(SHOWN)), "x".repeat(SHOWN));
+        assert_eq!(shown("x".repeat(9999)), "x".repeat(SHOWN) + "...");
+        assert!(shown("\u{202e}".repeat(9999)).len() < SHOWN + 12);
     }
 
     #[test]

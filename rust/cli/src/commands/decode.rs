@@ -26,8 +26,8 @@ const FILE: Known = Known {
     name: "FILE",
     expected: "one file",
     help: "\
-FILE          the soft values; standard input if there is none, or -. Behind --
-                a name may begin with -
+FILE          the soft values; standard input if there is none, or -. Its name
+                may begin with - if -- stands before it
 ",
 };
 
