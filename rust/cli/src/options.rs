@@ -91,7 +91,7 @@ impl Options {
         while let Some(word) = words.next() {
             let text = word.to_string_lossy();
             if ended || text == "-" || !text.starts_with('-') {
-                options.take_operand(operand, word)?;
+                options.take_operand(known, operand, word)?;
             } else if text == "--" {
                 ended = true;
             } else {
@@ -127,13 +127,19 @@ impl Options {
         Ok(())
     }
 
-    fn take_operand(&mut self, operand: Option<&Known>, word: &OsStr) -> Result<(), Failure> {
+    fn take_operand(
+        &mut self,
+        known: &[&Known],
+        operand: Option<&Known>,
+        word: &OsStr,
+    ) -> Result<(), Failure> {
         let expected = match operand {
             Some(_) if self.operand.is_none() => {
                 self.operand = Some(word.to_owned());
                 return Ok(());
             }
             Some(operand) => operand.expected,
+            None if known.is_empty() => "nothing behind the command",
             None => "an option; a value with spaces in it stands in quotes",
         };
         let word = shown(word);

@@ -168,7 +168,7 @@ fn wrong_command_lines_are_explained() {
     assert_refused(&format!("decode {NUMBERS} one two"), "", 64, &["`two`"]);
     assert_refused("help me", "", 64, &["`me` is not a command"]);
     assert_refused("help encode decode", "", 64, &["`decode`", "one command"]);
-    assert_refused("version 2", "", 64, &["`2`"]);
+    assert_refused("version 2", "", 64, &["`2`: expected nothing"]);
     let unquoted = format!("encode {NUMBERS} --payload 5400 a00000");
     assert_refused(&unquoted, "", 64, &["`a00000`", "quotes"]);
 }
