@@ -119,18 +119,10 @@ fn decoding_names_what_is_wrong_with_a_row() {
 
 #[test]
 fn wrong_command_lines_are_explained() {
-    let cases: [(&str, &[&str]); 13] = [
-        (
-            "",
-            &[
-                "no command",
-                "encode, decode, info, answers, help or version",
-            ],
-        ),
-        (
-            "encoded",
-            &["`encoded` is not a command", "expected encode"],
-        ),
+    let all = "encode, decode, info, answers, help or version";
+    let cases: [(&str, &[&str]); 6] = [
+        ("", &["no command", all]),
+        ("encoded", &["`encoded` is not a command", all]),
         (
             "encode",
             &["--size is missing", "12 to 140", "dci help encode"],
@@ -138,37 +130,50 @@ fn wrong_command_lines_are_explained() {
         ("encode --size", &["--size has no value"]),
         ("encode --size 1 --size 2", &["--size stands twice"]),
         ("encode --sise 12", &["--sise is not an option", "--size"]),
-        ("encode --size twelve", &["--size twelve", "12 to 140"]),
-        ("encode --size -12", &["--size -12"]),
-        (
-            "encode --size 12 --length 108 --rnti 65536",
-            &["--rnti 65536", "0 to 65535"],
-        ),
-        (
-            "encode --size 12 --length 108 --rnti 0x --id 1",
-            &["--rnti 0x", "0 to 65535"],
-        ),
-        (
-            "encode --size 12 --length 108 --rnti 1 --id 1 --payload 0g1",
-            &["--payload 0g1", "12 bits or 3 hexadecimal digits"],
-        ),
-        (
-            "encode --size 13 --length 108 --rnti 1 --id 1 --payload fff1",
-            &["--payload fff1", "last 3 bits"],
-        ),
-        (
-            "encode --size 12 --length 108 --rnti 1 --id 1 --payload 0 --as octal",
-            &["--as octal", "hex, bits, strip or soft"],
-        ),
     ];
     for (line, said) in cases {
         assert_refused(line, "", 64, said);
     }
-    assert_refused("answers now", "", 64, &["`now`"]);
+}
+
+#[test]
+fn wrong_values_are_explained() {
+    let cases: [(&str, &[&str]); 7] = [
+        ("--size twelve", &["--size twelve", "12 to 140"]),
+        ("--size -12", &["--size -12"]),
+        (
+            "--size 12 --length 108 --rnti 65536",
+            &["--rnti 65536", "0 to 65535"],
+        ),
+        (
+            "--size 12 --length 108 --rnti 0x --id 1",
+            &["--rnti 0x", "0 to 65535"],
+        ),
+        (
+            "--size 12 --length 108 --rnti 1 --id 1 --payload 0g1",
+            &["--payload 0g1", "12 bits or 3 hexadecimal digits"],
+        ),
+        (
+            "--size 13 --length 108 --rnti 1 --id 1 --payload fff1",
+            &["--payload fff1", "last 3 bits"],
+        ),
+        (
+            "--size 12 --length 108 --rnti 1 --id 1 --payload 0 --as octal",
+            &["--as octal", "hex, bits, strip or soft"],
+        ),
+    ];
+    for (options, said) in cases {
+        assert_refused(&format!("encode {options}"), "", 64, said);
+    }
+}
+
+#[test]
+fn words_that_are_not_taken_are_named() {
+    assert_refused("answers now", "", 64, &["`now`: expected nothing"]);
+    assert_refused("version 2", "", 64, &["`2`: expected nothing"]);
     assert_refused(&format!("decode {NUMBERS} one two"), "", 64, &["`two`"]);
     assert_refused("help me", "", 64, &["`me` is not a command"]);
     assert_refused("help encode decode", "", 64, &["`decode`", "one command"]);
-    assert_refused("version 2", "", 64, &["`2`: expected nothing"]);
     let unquoted = format!("encode {NUMBERS} --payload 5400 a00000");
     assert_refused(&unquoted, "", 64, &["`a00000`", "quotes"]);
 }
