@@ -9,9 +9,9 @@ use std::os::unix::ffi::OsStrExt;
 use std::path::{Path, PathBuf};
 use std::process::Command;
 
-/// A directory of this test's own, with a row of soft values under that name.
-fn room_with(name: &OsStr) -> PathBuf {
-    let room = Path::new(env!("CARGO_TARGET_TMPDIR")).join("files");
+/// A directory of one test's own, with a row of soft values under that name.
+fn room_with(test: &str, name: &OsStr) -> PathBuf {
+    let room = Path::new(env!("CARGO_TARGET_TMPDIR")).join(test);
     fs::create_dir_all(&room).expect("a directory");
     fs::write(room.join(name), soft_row()).expect("a file for the row");
     room
@@ -21,7 +21,7 @@ fn room_with(name: &OsStr) -> PathBuf {
 fn a_name_need_not_be_text() {
     for name in [&b"row.txt"[..], b"a row.txt", b"r\xf6w\xff.txt"] {
         let name = OsStr::from_bytes(name);
-        let file = room_with(name).join(name);
+        let file = room_with("names", name).join(name);
         let run = dci(&format!("decode {NUMBERS}"), Some(file.into()), "");
         assert_eq!((run.status, &run.out[..]), (0, "5400a00000\n"), "{name:?}");
     }
@@ -34,7 +34,7 @@ fn a_name_need_not_be_text() {
 /// Runs `dci decode` where a row has that name.
 fn decoded_beside(name: &str, more: &str) -> Run {
     let mut command = Command::new(PROGRAM);
-    command.current_dir(room_with(name.as_ref()));
+    command.current_dir(room_with("dashes", name.as_ref()));
     let line = format!("decode {NUMBERS} {more}");
     run(command.args(words(&line)), "")
 }
