@@ -22,10 +22,11 @@ fn run(command: &mut Command) -> String {
     String::from_utf8(output.stdout).expect("text")
 }
 
-/// Make, at the root of the repository.
+/// Make at the root of the repository, as if no other make had started this test.
 fn make() -> Command {
     let mut make = Command::new("make");
-    make.current_dir(root()).env_remove("MAKEFLAGS");
+    make.current_dir(root());
+    make.env_remove("MAKEFLAGS").env_remove("MAKELEVEL");
     make
 }
 
