@@ -68,14 +68,15 @@ pub fn meaning(refusal: Refusal) -> &'static str {
     ANSWERS[usize::from(refusal.number())].meaning
 }
 
-/// What the refusal of sizes says of the options; none if it is not one of sizes.
-pub fn of_sizes(refusal: Refusal, a: u64, e: u64) -> Option<String> {
+/// What the refusal of sizes says of the options; none if it is not one of sizes. `length` is the
+/// option that E came of, as it was given.
+pub fn of_sizes(refusal: Refusal, a: u64, e: u64, length: &str) -> Option<String> {
     match refusal {
         Refusal::PayloadSize => Some(format!("--size {a}: expected 12 to 140")),
-        Refusal::CodedLength => Some(format!("--length {e}: expected 108, 216, 432, 864 or 1728")),
+        Refusal::CodedLength => Some(format!("{length}: expected 108, 216, 432, 864 or 1728")),
         Refusal::TooManyBits => Some(format!(
-            "--size {a} with --length {e}: expected a size of at most {}, since 24 parity bits \
-             are added, or a greater length",
+            "--size {a} with {length}: expected a size of at most {}, since 24 parity bits are \
+             added, or a greater length",
             e - 24
         )),
         _ => None,

@@ -46,7 +46,7 @@ impl From<io::Error> for Failure {
     fn from(error: io::Error) -> Self {
         match error.kind() {
             io::ErrorKind::BrokenPipe => Failure::Closed,
-            _ => Failure::File(format!("the output cannot be written: {error}")),
+            _ => Failure::File(format!("standard output cannot be written: {error}")),
         }
     }
 }

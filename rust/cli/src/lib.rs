@@ -6,4 +6,5 @@ pub mod failure;
 pub mod options;
 pub mod picture;
 pub mod soft;
+pub mod streams;
 pub mod text;

@@ -1,9 +1,11 @@
 //! The command line: options with a value each, and at most one operand.
 
 use crate::failure::Failure;
+use crate::text::{behind, shown};
 use speltfeather::Numbers;
+use std::ffi::{OsStr, OsString};
 
-/// An option, what its value must be, and its lines of the help.
+/// An option or an operand, what must be given for it, and its lines of the help.
 #[derive(Debug)]
 pub struct Known {
     pub name: &'static str,
@@ -23,8 +25,15 @@ pub const LENGTH: Known = Known {
     name: "--length",
     expected: "the coded length in bits: 108, 216, 432, 864 or 1728",
     help: "\
---length E    coded length in bits: 108, 216, 432, 864 or 1728 (aggregation
-                level 1, 2, 4, 8 or 16)
+--length E    coded length in bits: 108, 216, 432, 864 or 1728
+",
+};
+pub const LEVEL: Known = Known {
+    name: "--level",
+    expected: "the aggregation level: 1, 2, 4, 8 or 16",
+    help: "\
+--level L     in place of --length: aggregation level 1, 2, 4, 8 or 16, which
+                is the coded length 108 L
 ",
 };
 pub const RNTI: Known = Known {
@@ -46,63 +55,95 @@ pub const PAYLOAD: Known = Known {
     name: "--payload",
     expected: "the payload, in bits or in hexadecimal digits",
     help: "\
---payload P   the payload, first bit first: A bits, or hexadecimal digits, as
-                many as A bits fill, with zeros behind the last bit. 0b or 0x in
-                front says which; _ may stand between digits
+--payload P   the payload, first bit first: A bits, or the hexadecimal digits
+                that they fill, A/4 rounded up, with zeros behind the last bit.
+                So many digits are hexadecimal whatever they begin with (0b1 at
+                size 12), so that what `dci decode` prints can be given; other
+                text is bits behind 0b and hexadecimal behind 0x. Spaces, _,
+                commas, semicolons and brackets may stand between digits
 ",
 };
+
+/// The aggregation levels and their coded lengths: 108 bits for each control channel element.
+const LEVELS: [(&str, u64); 5] = [("1", 108), ("2", 216), ("4", 432), ("8", 864), ("16", 1728)];
 
 /// What stood on the command line.
 #[derive(Debug, Default)]
 pub struct Options {
     values: Vec<(&'static str, String)>,
-    pub operand: Option<String>,
+    /// Left as it was given, since a file's name need not be text.
+    pub operand: Option<OsString>,
 }
 
 impl Options {
-    /// Reads the words behind the command's name.
+    /// Reads the words behind the command's name. Behind `--` each is an operand.
     ///
     /// # Errors
-    /// An option that is not known, stands twice or has no value; a second operand.
-    pub fn read(known: &[&Known], has_operand: bool, words: &[String]) -> Result<Self, Failure> {
+    /// An option that is not known, stands twice or has no value; an operand that is not taken.
+    pub fn read(
+        known: &[&Known],
+        operand: Option<&Known>,
+        words: &[OsString],
+    ) -> Result<Self, Failure> {
         let mut options = Self::default();
         let mut words = words.iter();
+        let mut ended = false;
         while let Some(word) = words.next() {
-            if word == "-" || !word.starts_with('-') {
-                options.take_operand(has_operand, word)?;
-                continue;
+            let text = word.to_string_lossy();
+            if ended || text == "-" || !text.starts_with('-') {
+                options.take_operand(known, operand, word)?;
+            } else if text == "--" {
+                ended = true;
+            } else {
+                options.take_option(known, &text, &mut words)?;
             }
-            let (name, inline) = match word.split_once('=') {
-                Some((name, value)) => (name, Some(value.to_string())),
-                None => (word.as_str(), None),
-            };
-            let Some(option) = known.iter().find(|option| option.name == name) else {
-                return Err(unknown(name, known));
-            };
-            let Some(value) = inline.or_else(|| words.next().cloned()) else {
-                return Err(wrong(&format!("{name} has no value"), option));
-            };
-            options.take(option, value)?;
         }
         Ok(options)
     }
 
-    fn take(&mut self, option: &Known, value: String) -> Result<(), Failure> {
+    /// Takes an option with its value, which is the next word if it is not in the same.
+    fn take_option<'a>(
+        &mut self,
+        known: &[&Known],
+        word: &str,
+        words: &mut impl Iterator<Item = &'a OsString>,
+    ) -> Result<(), Failure> {
+        let (name, inline) = match word.split_once('=') {
+            Some((name, value)) => (name, Some(value.to_string())),
+            None => (word, None),
+        };
+        let option = known.iter().find(|option| option.name == name);
+        let option = option.ok_or_else(|| unknown(name, known))?;
+        let next = || words.next().map(|word| word.to_string_lossy().into_owned());
+        let Some(value) = inline.or_else(next) else {
+            return Err(wrong(&format!("{name} has no value"), option));
+        };
         if self.text(option).is_some() {
-            let text = format!("{} stands twice: expected once", option.name);
-            return Err(Failure::Usage(text));
+            return Err(Failure::Usage(format!(
+                "{name} stands twice: expected once"
+            )));
         }
         self.values.push((option.name, value));
         Ok(())
     }
 
-    fn take_operand(&mut self, has_operand: bool, word: &str) -> Result<(), Failure> {
-        if !has_operand || self.operand.is_some() {
-            let expected = if has_operand { "one file" } else { "no file" };
-            return Err(Failure::Usage(format!("`{word}`: expected {expected}")));
-        }
-        self.operand = Some(word.to_string());
-        Ok(())
+    fn take_operand(
+        &mut self,
+        known: &[&Known],
+        operand: Option<&Known>,
+        word: &OsStr,
+    ) -> Result<(), Failure> {
+        let expected = match operand {
+            Some(_) if self.operand.is_none() => {
+                self.operand = Some(word.to_owned());
+                return Ok(());
+            }
+            Some(operand) => operand.expected,
+            None if known.is_empty() => "nothing behind the command",
+            None => "an option; a value with spaces in it stands in quotes",
+        };
+        let word = shown(word);
+        Err(Failure::Usage(format!("`{word}`: expected {expected}")))
     }
 
     /// The value of an option, if it was given.
@@ -120,7 +161,7 @@ impl Options {
     /// A number of up to `bits` bits, decimal or hexadecimal.
     pub fn number(&self, option: &Known, bits: u32) -> Result<u64, Failure> {
         let text = self.needed(option)?;
-        let (digits, radix) = match text.strip_prefix("0x").or(text.strip_prefix("0X")) {
+        let (digits, radix) = match behind(text, 'x') {
             Some(digits) => (digits, 16),
             None => (text, 10),
         };
@@ -128,13 +169,40 @@ impl Options {
             Ok(value) if !digits.starts_with('+') && (bits == 64 || value >> bits == 0) => {
                 Ok(value)
             }
-            _ => Err(wrong(&format!("{} {text}", option.name), option)),
+            _ => Err(wrong(&self.given(option), option)),
         }
     }
 
     /// A and E.
     pub fn sizes(&self) -> Result<(u64, u64), Failure> {
-        Ok((self.number(&SIZE, 64)?, self.number(&LENGTH, 64)?))
+        Ok((self.number(&SIZE, 64)?, self.length()?))
+    }
+
+    /// E, which either of two options gives.
+    fn length(&self) -> Result<u64, Failure> {
+        match (self.text(&LENGTH), self.text(&LEVEL)) {
+            (Some(_), None) => self.number(&LENGTH, 64),
+            (None, Some(_)) => self.choice(&LEVEL, &LEVELS),
+            (Some(_), Some(_)) => Err(Failure::Usage(
+                "--length and --level are both given: expected one of them".into(),
+            )),
+            (None, None) => Err(Failure::Usage(format!(
+                "--length is missing: expected {}; or --level with {}",
+                LENGTH.expected, LEVEL.expected
+            ))),
+        }
+    }
+
+    /// The option that E came of, as it was given.
+    pub fn given_length(&self) -> String {
+        let by_level = self.text(&LEVEL).is_some();
+        self.given(if by_level { &LEVEL } else { &LENGTH })
+    }
+
+    /// An option as it was given.
+    fn given(&self, option: &Known) -> String {
+        let value = shown(self.text(option).unwrap_or_default());
+        format!("{} {value}", option.name)
     }
 
     /// The four numbers of a call.
@@ -152,7 +220,7 @@ impl Options {
         };
         match choices.iter().find(|(word, _)| *word == text) {
             Some(&(_, choice)) => Ok(choice),
-            None => Err(wrong(&format!("{} {text}", option.name), option)),
+            None => Err(wrong(&self.given(option), option)),
         }
     }
 }
@@ -163,6 +231,7 @@ fn wrong(subject: &str, option: &Known) -> Failure {
 }
 
 fn unknown(name: &str, known: &[&Known]) -> Failure {
+    let name = shown(name);
     let names: Vec<&str> = known.iter().map(|option| option.name).collect();
     Failure::Usage(match names.as_slice() {
         [] => format!("{name} is not an option: this command takes none"),

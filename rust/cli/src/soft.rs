@@ -1,6 +1,7 @@
-//! Soft values as text: whole numbers with white space or commas between them; `#` starts a comment.
+//! Soft values as text: whole numbers with separators between them; `#` starts a comment.
 
 use crate::failure::Failure;
+use crate::text::{is_separator, shown};
 
 /// A soft value and the line that it stood on.
 #[derive(Clone, Copy, Debug, PartialEq, Eq)]
@@ -17,15 +18,16 @@ pub fn read(text: &str, source: &str) -> Result<Vec<Soft>, Failure> {
     let mut values = Vec::new();
     for (i, line) in text.lines().enumerate() {
         let numbers = line.split('#').next().unwrap_or_default();
-        for word in numbers.split(|c: char| c.is_whitespace() || c == ',') {
+        for word in numbers.split(is_separator) {
             if word.is_empty() {
                 continue;
             }
             let Ok(value) = word.parse() else {
                 return Err(Failure::File(format!(
-                    "{source}, line {}: `{word}`: expected whole numbers from -127 to 127, with \
+                    "{source}, line {}: `{}`: expected whole numbers from -127 to 127, with \
                      spaces, commas or new lines between them",
-                    i + 1
+                    i + 1,
+                    shown(word)
                 )));
             };
             values.push(Soft { value, line: i + 1 });
@@ -44,6 +46,13 @@ mod tests {
         let values: Vec<i32> = read.iter().map(|soft| soft.value).collect();
         assert_eq!(values, [1, -2, 3, 4, i32::MIN]);
         assert_eq!(read[3].line, 3);
+    }
+
+    #[test]
+    fn brackets_semicolons_and_a_byte_order_mark_are_skipped() {
+        let read = read("\u{feff}[[1; -2]\n (3){4}; ]", "x").unwrap();
+        let values: Vec<(i32, usize)> = read.iter().map(|soft| (soft.value, soft.line)).collect();
+        assert_eq!(values, [(1, 1), (-2, 1), (3, 2), (4, 2)]);
     }
 
     #[test]

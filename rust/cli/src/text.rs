@@ -1,6 +1,7 @@
 //! Bits as text, and text as bits.
 
 use crate::failure::Failure;
+use std::ffi::OsStr;
 
 /// Bits as hexadecimal digits: the first bit is the highest of the first digit, and the last digit is
 /// filled up with zeros.
@@ -23,42 +24,83 @@ pub fn digits(bits: &[u8]) -> String {
 /// # Errors
 /// A character that is neither, or bits behind the payload's end that are not 0.
 pub fn payload(text: &str, size: u64) -> Result<Vec<u8>, Failure> {
-    let plain: String = text.chars().filter(|c| *c != '_').collect();
-    let (plain, marked) = match (plain.strip_prefix("0x"), plain.strip_prefix("0b")) {
-        (Some(rest), _) => (rest, Some(true)),
-        (_, Some(rest)) => (rest, Some(false)),
-        _ => (&plain[..], None),
+    let wrong = |expected| {
+        let text = shown(text);
+        Failure::Usage(format!("--payload {text}: expected {expected}"))
     };
+    let between = |c: &char| *c == '_' || is_separator(*c);
+    let plain: String = text.chars().filter(|c| !between(c)).collect();
+    let (plain, is_hex) = notation(&plain, size);
     let values: Option<Vec<u8>> = plain.chars().map(digit).collect();
-    let Some(values) = values else {
-        return Err(Failure::Usage(format!(
-            "--payload {text}: expected {}",
-            wanted(size)
-        )));
-    };
-    let fills = values.len() as u64 == size.div_ceil(4);
-    let above_9 = values.iter().any(|&value| value > 9);
-    let above_1 = values.iter().any(|&value| value > 1);
-    let is_hex = marked.unwrap_or(fills || above_9 || (above_1 && values.len() as u64 != size));
+    let values = values.ok_or_else(|| wrong(wanted(size)))?;
     if !is_hex {
         return Ok(values);
     }
-    let mut bits: Vec<u8> = values
-        .iter()
-        .flat_map(|value| (0..4).rev().map(move |i| value >> i & 1))
-        .collect();
-    if fills {
+    let bits = |value: &u8| [3, 2, 1, 0].map(|i| value >> i & 1);
+    let mut bits: Vec<u8> = values.iter().flat_map(bits).collect();
+    if values.len() as u64 == size.div_ceil(4) {
         let spare = bits.split_off(size as usize);
         if spare.contains(&1) {
-            let text = format!(
-                "--payload {text}: expected 0 in the last {} bits of the last digit, behind the \
-                 {size} bits of the payload",
+            return Err(wrong(format!(
+                "0 in the last {} bits of the last digit, behind the {size} bits of the payload",
                 spare.len()
-            );
-            return Err(Failure::Usage(text));
+            )));
         }
     }
     Ok(bits)
+}
+
+/// The digits of a payload without what stands in front of them, and whether they are hexadecimal.
+///
+/// As many digits as the payload fills are hexadecimal before a prefix is looked for: 12 bits may
+/// well be printed as `0b0`. No payload in bits is lost by it, since A bits never fill A digits.
+fn notation(plain: &str, size: u64) -> (&str, bool) {
+    let counts = |digits: u64| plain.len() as u64 == digits;
+    let is = |radix| plain.chars().all(|c| c.is_digit(radix));
+    if counts(size.div_ceil(4)) && is(16) {
+        return (plain, true);
+    }
+    match (behind(plain, 'x'), behind(plain, 'b')) {
+        (Some(digits), _) => (digits, true),
+        (_, Some(digits)) => (digits, false),
+        _ => (plain, !is(10) || !(is(2) || counts(size))),
+    }
+}
+
+/// What stands behind 0 and that letter, small or capital.
+pub fn behind(text: &str, letter: char) -> Option<&str> {
+    let either = [letter, letter.to_ascii_uppercase()];
+    text.strip_prefix('0')?.strip_prefix(either)
+}
+
+/// What may stand between numbers or digits, as other programs print them: white space, a comma or
+/// semicolon, a bracket, a byte order mark.
+pub fn is_separator(c: char) -> bool {
+    c.is_whitespace() || ",;[](){}\u{feff}".contains(c)
+}
+
+/// How many bytes an error shows of what was given, before it says that there is more.
+const SHOWN: usize = 100;
+
+/// What an error shows of something that was given: cut short, and with no character that a terminal
+/// would act on.
+pub fn shown(given: impl AsRef<OsStr>) -> String {
+    let mut shown = String::new();
+    for c in given.as_ref().to_string_lossy().chars() {
+        if shown.len() >= SHOWN {
+            return shown + "...";
+        }
+        match c {
+            '\'' | '"' => shown.push(c),
+            _ => shown.extend(c.escape_debug()),
+        }
+    }
+    shown
+}
+
+/// Lines as one text.
+pub fn joined(lines: &[String]) -> String {
+    lines.iter().map(|line| format!("{line}\n")).collect()
 }
 
 /// What a payload of that size is written as.
@@ -107,6 +149,7 @@ pub fn wrapped(words: &[String], width: usize) -> Vec<String> {
 #[cfg(test)]
 mod tests {
     use super::*;
+    use channel::Random;
 
     #[test]
     fn digits_are_filled_up_behind() {
@@ -125,10 +168,51 @@ mod tests {
         // Three digits for 12 bits are hexadecimal, even where they look like bits.
         assert_eq!(payload("101", 12).unwrap(), hex_bits(0x101));
         assert_eq!(payload("0b101", 12).unwrap(), [1, 0, 1]);
+        assert_eq!(payload("0B101", 12).unwrap(), [1, 0, 1]);
+        assert_eq!(payload("0X101", 12).unwrap(), hex_bits(0x101));
     }
 
     fn hex_bits(value: u32) -> Vec<u8> {
         (0..12).rev().map(|i| (value >> i & 1) as u8).collect()
+    }
+
+    #[test]
+    fn what_is_printed_is_read_back() {
+        for value in 0..1 << 12 {
+            let bits = hex_bits(value);
+            assert_eq!(hex(&bits), format!("{value:03x}"));
+            assert_eq!(payload(&hex(&bits), 12).unwrap(), bits);
+        }
+        let mut random = Random::new(1);
+        for size in 12..=140 {
+            for first in 0..=255 {
+                let mut bits = random.bits(size);
+                bits[..8].copy_from_slice(&[7, 6, 5, 4, 3, 2, 1, 0].map(|i| first >> i & 1));
+                for text in [hex(&bits), format!("0x{}", hex(&bits)), digits(&bits)] {
+                    assert_eq!(payload(&text, size as u64).unwrap(), bits, "{text}");
+                }
+            }
+        }
+    }
+
+    #[test]
+    fn as_many_digits_as_fill_it_are_hexadecimal() {
+        let bits = payload("0b101", 20).unwrap();
+        assert_eq!(hex(&bits), "0b101");
+        assert_eq!(payload("0 b1_01", 20).unwrap(), bits);
+        assert!(payload("0b101", 19).is_err());
+        for size in [16, 21] {
+            assert_eq!(payload("0b101", size).unwrap(), [1, 0, 1]);
+        }
+    }
+
+    #[test]
+    fn what_is_shown_is_short_and_plain() {
+        assert_eq!(shown("it's \"ä\" \\"), "it's \"ä\" \\\\");
+        assert_eq!(shown("\u{1b}[2J\n\0"), "\\u{1b}[2J\\n\\0");
+        assert_eq!(shown("x".repeat(SHOWN)), "x".repeat(SHOWN));
+        assert_eq!(shown("x".repeat(9999)), "x".repeat(SHOWN) + "...");
+        assert!(shown("\u{202e}".repeat(9999)).len() < SHOWN + 12);
     }
 
     #[test]

@@ -1,10 +1,9 @@
 //! `dci answers`
 
-use crate::answers::ANSWERS;
+use crate::answers::{ANSWERS, Answer};
 use crate::commands::Command;
 use crate::failure::Failure;
 use crate::options::Options;
-use std::io::Write;
 
 pub const COMMAND: Command = Command {
     name: "answers",
@@ -19,10 +18,12 @@ every number but 0 the output buffer holds what it held before the call.
     run,
 };
 
-fn run(_: &Options, out: &mut dyn Write) -> Result<(), Failure> {
-    for answer in &ANSWERS {
-        let names = format!("C {}, Rust {}", answer.c, answer.rust);
-        writeln!(out, "{}  {}\n   {names}", answer.number, answer.meaning)?;
-    }
-    Ok(())
+fn run(_: &Options) -> Result<String, Failure> {
+    let entry = |answer: &Answer| {
+        let Answer {
+            number, c, rust, ..
+        } = answer;
+        format!("{number}  {}\n   C {c}, Rust {rust}\n", answer.meaning)
+    };
+    Ok(ANSWERS.iter().map(entry).collect())
 }

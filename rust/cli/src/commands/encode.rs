@@ -3,10 +3,9 @@
 use crate::answers::of_sizes;
 use crate::commands::Command;
 use crate::failure::Failure;
-use crate::options::{ID, Known, LENGTH, Options, PAYLOAD, RNTI, SIZE};
+use crate::options::{ID, Known, LENGTH, LEVEL, Options, PAYLOAD, RNTI, SIZE};
 use crate::{picture, text};
 use speltfeather::{Numbers, Refusal};
-use std::io::Write;
 
 const AS: Known = Known {
     name: "--as",
@@ -23,16 +22,17 @@ const AS: Known = Known {
 pub const COMMAND: Command = Command {
     name: "encode",
     summary: "codes a payload into E scrambled bits",
-    usage: "--size A --length E --rnti R --id N --payload P [--as FORM]",
+    usage: "--size A (--length E | --level L) --rnti R --id N
+                  --payload P [--as FORM]",
     notes: "\
 example: the message that announces SIB1
-  dci encode --size 37 --length 432 --rnti 0xffff --id 1 --payload 5400a00000
+  dci encode --size 37 --level 4 --rnti 0xffff --id 1 --payload 5400a00000
 
 exit status: 0 if the message was coded; the answer's number, 1 to 6, if it was
 refused (`dci answers` lists them); 64 if the command line is wrong; 66 if the
 output cannot be written
 ",
-    options: &[&SIZE, &LENGTH, &RNTI, &ID, &PAYLOAD, &AS],
+    options: &[&SIZE, &LENGTH, &LEVEL, &RNTI, &ID, &PAYLOAD, &AS],
     operand: None,
     run,
 };
@@ -50,7 +50,7 @@ enum Form {
     Soft,
 }
 
-fn run(options: &Options, out: &mut dyn Write) -> Result<(), Failure> {
+fn run(options: &Options) -> Result<String, Failure> {
     let numbers = options.numbers()?;
     let payload = text::payload(options.needed(&PAYLOAD)?, numbers.a)?;
     let forms = [
@@ -62,12 +62,11 @@ fn run(options: &Options, out: &mut dyn Write) -> Result<(), Failure> {
     let form = options.choice(&AS, &forms)?;
     // An E that no buffer should be made for is refused before its length counts.
     let mut coded = vec![0; numbers.e.min(1728) as usize];
-    speltfeather::encode(&numbers, &payload, &mut coded)
-        .map_err(|refusal| Failure::Answer(refusal, explained(refusal, &numbers, &payload)))?;
-    for line in lines(form, &coded) {
-        writeln!(out, "{line}")?;
-    }
-    Ok(())
+    speltfeather::encode(&numbers, &payload, &mut coded).map_err(|refusal| {
+        let text = explained(refusal, &numbers, &options.given_length(), &payload);
+        Failure::Answer(refusal, text)
+    })?;
+    Ok(text::joined(&lines(form, &coded)))
 }
 
 fn lines(form: Form, coded: &[u8]) -> Vec<String> {
@@ -85,9 +84,9 @@ fn soft_line(bits: &[u8]) -> String {
     values.join(" ")
 }
 
-fn explained(refusal: Refusal, numbers: &Numbers, payload: &[u8]) -> String {
+fn explained(refusal: Refusal, numbers: &Numbers, length: &str, payload: &[u8]) -> String {
     let Numbers { a, e, .. } = *numbers;
-    if let Some(text) = of_sizes(refusal, a, e) {
+    if let Some(text) = of_sizes(refusal, a, e, length) {
         return text;
     }
     match refusal {

@@ -3,10 +3,9 @@
 use crate::answers::of_sizes;
 use crate::commands::Command;
 use crate::failure::Failure;
-use crate::options::{Known, LENGTH, Options, SIZE};
+use crate::options::{Known, LENGTH, LEVEL, Options, SIZE};
 use crate::{picture, text};
 use speltfeather::{Code, RateMatching, Role};
-use std::io::Write;
 
 const AS: Known = Known {
     name: "--as",
@@ -23,7 +22,7 @@ const AS: Known = Known {
 pub const COMMAND: Command = Command {
     name: "info",
     summary: "shows the code of a size and a length: K, N, kind and positions",
-    usage: "--size A --length E [--as FORM]",
+    usage: "--size A (--length E | --level L) [--as FORM]",
     notes: "\
 A position is one of the N inputs of the polar transform. An information
 position carries a bit of payload or parity. A barred one is frozen because of
@@ -36,7 +35,7 @@ exit status: 0 if the sizes are accepted; the answer's number, 1 to 3, if not
 (`dci answers` lists them); 64 if the command line is wrong; 66 if the output
 cannot be written
 ",
-    options: &[&SIZE, &LENGTH, &AS],
+    options: &[&SIZE, &LENGTH, &LEVEL, &AS],
     operand: None,
     run,
 };
@@ -53,7 +52,7 @@ struct Shown {
 
 type Form = fn(&Shown) -> Vec<String>;
 
-fn run(options: &Options, out: &mut dyn Write) -> Result<(), Failure> {
+fn run(options: &Options) -> Result<String, Failure> {
     let (a, e) = options.sizes()?;
     let forms: [(&str, Form); 4] = [
         ("both", both),
@@ -63,13 +62,10 @@ fn run(options: &Options, out: &mut dyn Write) -> Result<(), Failure> {
     ];
     let form = options.choice(&AS, &forms)?;
     let code = Code::of(a, e).map_err(|refusal| {
-        let text = of_sizes(refusal, a, e);
+        let text = of_sizes(refusal, a, e, &options.given_length());
         Failure::Answer(refusal, text.unwrap_or_else(|| refusal.to_string()))
     })?;
-    for line in form(&Shown { a, e, code }) {
-        writeln!(out, "{line}")?;
-    }
-    Ok(())
+    Ok(text::joined(&form(&Shown { a, e, code })))
 }
 
 fn both(shown: &Shown) -> Vec<String> {

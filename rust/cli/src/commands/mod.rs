@@ -3,13 +3,16 @@
 mod answers;
 mod decode;
 mod encode;
+pub mod help;
 mod info;
+mod version;
 
 use crate::failure::Failure;
 use crate::options::{Known, Options};
-use std::io::Write;
+use crate::text::shown;
+use std::ffi::OsStr;
 
-/// A command: its options, the help of its operand if it takes one, and what it does.
+/// A command: its options, its operand if it takes one, and what it does.
 pub struct Command {
     pub name: &'static str,
     pub summary: &'static str,
@@ -17,8 +20,9 @@ pub struct Command {
     /// What the help says behind the options.
     pub notes: &'static str,
     pub options: &'static [&'static Known],
-    pub operand: Option<&'static str>,
-    pub run: fn(&Options, &mut dyn Write) -> Result<(), Failure>,
+    pub operand: Option<&'static Known>,
+    /// Gives what is printed.
+    pub run: fn(&Options) -> Result<String, Failure>,
 }
 
 impl Command {
@@ -31,10 +35,9 @@ impl Command {
             ..
         } = self;
         let usage = format!("dci {name} {}", self.usage);
-        let options = self.options.iter().map(|option| option.help);
-        let mut list: String = options
+        let mut list: String = (self.options.iter().copied())
             .chain(self.operand)
-            .map(|line| format!("  {line}"))
+            .map(|known| format!("  {}", known.help))
             .collect();
         if !list.is_empty() {
             list.push('\n');
@@ -46,14 +49,40 @@ impl Command {
     }
 }
 
-pub const COMMANDS: [Command; 4] = [
+pub static COMMANDS: [Command; 6] = [
     encode::COMMAND,
     decode::COMMAND,
     info::COMMAND,
     answers::COMMAND,
+    help::COMMAND,
+    version::COMMAND,
 ];
 
-/// The command of that name.
-pub fn find(name: &str) -> Option<&'static Command> {
+/// The command of that name, or of an option that stands for it.
+pub fn find(name: &OsStr) -> Option<&'static Command> {
+    let name = match name.to_str()? {
+        "--help" | "-h" => "help",
+        "--version" | "-V" => "version",
+        name => name,
+    };
     COMMANDS.iter().find(|command| command.name == name)
+}
+
+/// The command of that name.
+///
+/// # Errors
+/// There is none.
+pub fn known(name: &OsStr) -> Result<&'static Command, Failure> {
+    let unknown = || {
+        let name = shown(name);
+        Failure::Usage(format!("`{name}` is not a command: expected {}", names()))
+    };
+    find(name).ok_or_else(unknown)
+}
+
+/// The names of the commands, as a complaint lists them.
+pub fn names() -> String {
+    let names = COMMANDS.each_ref().map(|command| command.name);
+    let (last, others) = names.split_last().expect("there are commands");
+    format!("{} or {last}", others.join(", "))
 }

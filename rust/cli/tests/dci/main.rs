@@ -1,62 +1,14 @@
 //! The command as a user meets it: what it prints, what it complains of, and its exit status.
 
-use std::env;
-use std::fs;
-use std::io::Write;
-use std::process::{Command, Stdio};
+mod files;
+mod levels;
+mod payloads;
+mod run;
+mod streams;
 
-const NUMBERS: &str = "--size 37 --length 432 --rnti 0xffff --id 1";
-const SIB1: &str = "--payload 5400a00000";
+use run::{NUMBERS, SIB1, assert_refused, printed, soft_row};
+
 const SIB1_BITS: &str = "0101010000000000101000000000000000000";
-
-/// What a run gave: exit status, standard output and standard error.
-struct Run {
-    status: i32,
-    out: String,
-    err: String,
-}
-
-fn dci(line: &str, input: &str) -> Run {
-    let mut child = Command::new(env!("CARGO_BIN_EXE_dci"))
-        .args(line.split_whitespace())
-        .stdin(Stdio::piped())
-        .stdout(Stdio::piped())
-        .stderr(Stdio::piped())
-        .spawn()
-        .expect("dci can be run");
-    // A command that does not read its input may end before it is written.
-    let _ = child
-        .stdin
-        .take()
-        .expect("a pipe")
-        .write_all(input.as_bytes());
-    let output = child.wait_with_output().expect("dci ends");
-    Run {
-        status: output.status.code().expect("an exit status"),
-        out: String::from_utf8(output.stdout).expect("text"),
-        err: String::from_utf8(output.stderr).expect("text"),
-    }
-}
-
-/// What a run prints that must go well.
-fn printed(line: &str, input: &str) -> String {
-    let run = dci(line, input);
-    assert_eq!((run.status, &run.err[..]), (0, ""), "{line}");
-    run.out
-}
-
-/// Asserts that a run prints nothing, ends with that status and says all of this.
-fn assert_refused(line: &str, input: &str, status: i32, said: &[&str]) {
-    let run = dci(line, input);
-    assert_eq!((run.status, &run.out[..]), (status, ""), "{line}");
-    for words in said {
-        assert!(run.err.contains(words), "{line}: {}", run.err);
-    }
-}
-
-fn soft_row() -> String {
-    printed(&format!("encode {NUMBERS} {SIB1} --as soft"), "")
-}
 
 #[test]
 fn coding_prints_what_the_library_gives() {
@@ -91,20 +43,6 @@ fn coding_prints_what_the_library_gives() {
 }
 
 #[test]
-fn a_payload_may_be_bits_or_digits() {
-    let coded = printed(&format!("encode {NUMBERS} {SIB1}"), "");
-    for payload in [
-        SIB1_BITS,
-        "0x5400A00000",
-        "54_00a_00000",
-        &format!("0b{SIB1_BITS}"),
-    ] {
-        let line = format!("encode --payload={payload} {NUMBERS}");
-        assert_eq!(printed(&line, ""), coded, "{payload}");
-    }
-}
-
-#[test]
 fn what_was_coded_is_read_back() {
     let soft = soft_row();
     let decode = format!("decode {NUMBERS}");
@@ -119,15 +57,6 @@ fn what_was_coded_is_read_back() {
         soft.trim().replace([' ', '\n'], ",").replace("64", "3")
     );
     assert_eq!(printed(&decode, &with_commas), "5400a00000\n");
-}
-
-#[test]
-fn soft_values_are_read_from_a_file() {
-    let file = env::temp_dir().join(format!("dci-soft-{}.txt", std::process::id()));
-    fs::write(&file, soft_row()).expect("a file for the row");
-    let line = format!("decode {NUMBERS} {}", file.display());
-    assert_eq!(printed(&line, ""), "5400a00000\n");
-    fs::remove_file(file).expect("the file is there");
 }
 
 #[test]
@@ -190,12 +119,10 @@ fn decoding_names_what_is_wrong_with_a_row() {
 
 #[test]
 fn wrong_command_lines_are_explained() {
-    let cases: [(&str, &[&str]); 13] = [
-        ("", &["no command", "encode, decode, info or answers"]),
-        (
-            "encoded",
-            &["`encoded` is not a command", "expected encode"],
-        ),
+    let all = "encode, decode, info, answers, help or version";
+    let cases: [(&str, &[&str]); 6] = [
+        ("", &["no command", all]),
+        ("encoded", &["`encoded` is not a command", all]),
         (
             "encode",
             &["--size is missing", "12 to 140", "dci help encode"],
@@ -203,41 +130,59 @@ fn wrong_command_lines_are_explained() {
         ("encode --size", &["--size has no value"]),
         ("encode --size 1 --size 2", &["--size stands twice"]),
         ("encode --sise 12", &["--sise is not an option", "--size"]),
-        ("encode --size twelve", &["--size twelve", "12 to 140"]),
-        ("encode --size -12", &["--size -12"]),
-        (
-            "encode --size 12 --length 108 --rnti 65536",
-            &["--rnti 65536", "0 to 65535"],
-        ),
-        (
-            "encode --size 12 --length 108 --rnti 0x --id 1",
-            &["--rnti 0x", "0 to 65535"],
-        ),
-        (
-            "encode --size 12 --length 108 --rnti 1 --id 1 --payload 0g1",
-            &["--payload 0g1", "12 bits or 3 hexadecimal digits"],
-        ),
-        (
-            "encode --size 13 --length 108 --rnti 1 --id 1 --payload fff1",
-            &["--payload fff1", "last 3 bits"],
-        ),
-        (
-            "encode --size 12 --length 108 --rnti 1 --id 1 --payload 0 --as octal",
-            &["--as octal", "hex, bits, strip or soft"],
-        ),
     ];
     for (line, said) in cases {
         assert_refused(line, "", 64, said);
     }
-    assert_refused("answers now", "", 64, &["`now`"]);
+}
+
+#[test]
+fn wrong_values_are_explained() {
+    let cases: [(&str, &[&str]); 7] = [
+        ("--size twelve", &["--size twelve", "12 to 140"]),
+        ("--size -12", &["--size -12"]),
+        (
+            "--size 12 --length 108 --rnti 65536",
+            &["--rnti 65536", "0 to 65535"],
+        ),
+        (
+            "--size 12 --length 108 --rnti 0x --id 1",
+            &["--rnti 0x", "0 to 65535"],
+        ),
+        (
+            "--size 12 --length 108 --rnti 1 --id 1 --payload 0g1",
+            &["--payload 0g1", "12 bits or 3 hexadecimal digits"],
+        ),
+        (
+            "--size 13 --length 108 --rnti 1 --id 1 --payload fff1",
+            &["--payload fff1", "last 3 bits"],
+        ),
+        (
+            "--size 12 --length 108 --rnti 1 --id 1 --payload 0 --as octal",
+            &["--as octal", "hex, bits, strip or soft"],
+        ),
+    ];
+    for (options, said) in cases {
+        assert_refused(&format!("encode {options}"), "", 64, said);
+    }
+}
+
+#[test]
+fn words_that_are_not_taken_are_named() {
+    assert_refused("answers now", "", 64, &["`now`: expected nothing"]);
+    assert_refused("version 2", "", 64, &["`2`: expected nothing"]);
     assert_refused(&format!("decode {NUMBERS} one two"), "", 64, &["`two`"]);
     assert_refused("help me", "", 64, &["`me` is not a command"]);
+    assert_refused("help encode decode", "", 64, &["`decode`", "one command"]);
+    let unquoted = format!("encode {NUMBERS} --payload 5400 a00000");
+    assert_refused(&unquoted, "", 64, &["`a00000`", "quotes"]);
 }
 
 #[test]
 fn each_command_has_help() {
     let general = printed("help", "");
     assert_eq!(printed("--help", ""), general);
+    assert_eq!(printed("-h encode", ""), printed("help encode", ""));
     for command in &cli::commands::COMMANDS {
         assert!(general.contains(command.name));
         let help = printed(&format!("help {}", command.name), "");
@@ -246,6 +191,14 @@ fn each_command_has_help() {
             assert!(help.contains(option.name), "{}", option.name);
         }
         assert!(help.lines().all(|line| line.len() <= 80), "{help}");
+    }
+}
+
+#[test]
+fn the_release_is_said() {
+    let release = format!("dci {}\n", env!("CARGO_PKG_VERSION"));
+    for line in ["version", "--version", "-V"] {
+        assert_eq!(printed(line, ""), release, "{line}");
     }
 }
 
