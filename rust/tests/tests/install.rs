@@ -1,6 +1,6 @@
 //! What a C user does first: `make install`, then the example built by its one line.
 
-use conformance::built::root;
+use conformance::built::{program_of_readme, root};
 use std::env;
 use std::fs;
 use std::path::{Path, PathBuf};
@@ -54,13 +54,6 @@ fn built(source: &Path, prefix: &Path) -> String {
     run(&mut Command::new(&program))
 }
 
-/// The program that README shows.
-fn shown_in_readme() -> String {
-    let readme = fs::read_to_string(root().join("README.md")).expect("README.md");
-    let (_, rest) = readme.split_once("```c\n").expect("a C program");
-    rest.split_once("```").expect("its end").0.to_string()
-}
-
 #[test]
 fn what_is_installed_builds_the_examples() {
     let (prefix, room) = (room("prefix"), room("examples"));
@@ -76,7 +69,7 @@ fn what_is_installed_builds_the_examples() {
     let said = built(&example, &prefix);
     assert!(said.ends_with("another RNTI: no message\n"), "{said}");
     let shown = room.join("readme.c");
-    fs::write(&shown, shown_in_readme()).expect("a file");
+    fs::write(&shown, program_of_readme()).expect("a file");
     assert_eq!(built(&shown, &prefix), "a message\n");
 
     make("uninstall", &prefix);
