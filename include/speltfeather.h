@@ -20,6 +20,12 @@
 extern "C" {
 #endif
 
+/* The version of this header and of the archive that it comes with. */
+#define SPELT_VERSION_MAJOR 0
+#define SPELT_VERSION_MINOR 1
+#define SPELT_VERSION_PATCH 0
+#define SPELT_VERSION "0.1.0"
+
 /*
  * The numbers given back. They are tested in this order, and the first that
  * applies is given. On every number but SPELT_DONE the output buffer holds what
@@ -50,12 +56,18 @@ enum spelt_number {
  *   7             never          may come       never            never
  */
 
+#ifdef __cplusplus
+#define SPELT_AS(type, value) (static_cast<type>(value))
+#else
+#define SPELT_AS(type, value) ((type)(value))
+#endif
+
 /* The number in the answer r of a call: one of enum spelt_number. */
-#define SPELT_NUMBER(r) ((int)((r) & 255u))
+#define SPELT_NUMBER(r) SPELT_AS(int, (r) & 255u)
 
 /* The place in the answer r: with SPELT_BAD_ENTRY the index, from 0, of the
  * first entry outside its range; with every other number 0. */
-#define SPELT_PLACE(r) ((size_t)((r) >> 8))
+#define SPELT_PLACE(r) SPELT_AS(size_t, (r) >> 8)
 
 /*
  * What the calls share:
@@ -63,8 +75,14 @@ enum spelt_number {
  *   a        payload size A: 12 to 140 bits, the 24 parity bits not counted
  *   e        coded length E: 108, 216, 432, 864 or 1728 bits (aggregation
  *            level 1, 2, 4, 8 or 16)
- *   rnti     radio number, added to the last 16 parity bits
- *   n_id     scrambling identity, the start value of the Gold sequence
+ *   rnti     radio number, added to the last 16 parity bits: 0 to 65535
+ *   n_id     scrambling identity, the start value of the Gold sequence: 0 to
+ *            65535
+ *
+ * C cuts what is handed in as rnti or n_id to 16 bits before the call, and says
+ * nothing: an int of 65536 + 7 arrives as 7, and one of -1 as 65535. No number
+ * given back tells of it, so check wider variables first (-Wconversion finds
+ * them).
  *
  * No pointer may be null, not even where its length is 0. Each must be valid
  * for as many entries as its length says (inputs are read; out is read and

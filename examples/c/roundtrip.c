@@ -14,7 +14,7 @@
 
 enum { A = 40, E = 216 };
 
-static const uint16_t rnti = 0x4601, n_id = 500;
+static const uint16_t rnti = 0x4601, another_rnti = 0x4602, n_id = 500;
 
 static int refused(const char *call, uint64_t r)
 {
@@ -62,7 +62,7 @@ int main(void)
         return 1;
 
     /* A handset with another RNTI finds no message in the same values. */
-    r = spelt_decode(A, E, rnti + 1, n_id, soft, E, got, A);
+    r = spelt_decode(A, E, another_rnti, n_id, soft, E, got, A);
     printf("another RNTI: %s\n",
            SPELT_NUMBER(r) == SPELT_PARITY_MISMATCH ? "no message" : "?");
     return SPELT_NUMBER(r) == SPELT_PARITY_MISMATCH ? 0 : 1;

@@ -1,5 +1,5 @@
-//! Links libspeltfeather.a: from SPELTFEATHER_LIB_DIR if that is set, else from where
-//! `rt staticlib speltfeather` puts it in this repository.
+//! Links libspeltfeather.a: from SPELTFEATHER_LIB_DIR if that is set, else from where `make lib` puts
+//! it in this repository.
 
 use std::env;
 use std::path::{Path, PathBuf};
@@ -12,7 +12,7 @@ fn main() {
     println!("cargo::rerun-if-changed={}", archive.display());
     if !archive.is_file() {
         println!(
-            "cargo::error={} is missing: run `rt staticlib speltfeather` or `make test` first, \
+            "cargo::error={} is missing: run `make lib` at the root of the repository first, \
              or set SPELTFEATHER_LIB_DIR to the directory that holds it",
             archive.display()
         );

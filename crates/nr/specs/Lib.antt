@@ -1,4 +1,4 @@
--- What a reader must believe: document 01, a module for each of its sections, in its order.
+-- What a reader must believe: document 01, a module for each of its sections, in its order. docs/SOURCES.md introduces document 01.
 -- Rows is the vocabulary; Coding and Decoding put the sections together; Promise3 says that the two belong together.
 pub mod Rows
 pub mod Numbers

@@ -24,7 +24,7 @@ pub const CASES: [Case; 4] = [
 /// What 24 parity bits let through of one decision: 2^-24.
 pub const ONE_DECISION: f64 = 1.0 / (1u64 << 24) as f64;
 
-/// What is asked of the whole: 1.5 times 2^-21.
+/// What is asked of the whole (source 003 of docs/SOURCES.md): 1.5 times 2^-21.
 pub const TARGET: f64 = 1.5 / (1u64 << 21) as f64;
 
 const BATCH: u64 = 10_000;

@@ -141,7 +141,7 @@ pub fn loopback(
     decode(a, e, rnti, n_id, &noiseless(&coded, strengths), out)
 }
 
-/// Writes what each of the positions 0..511 is for into `out` and gives the number and the place.
+/// Writes what each of the positions 0..=511 is for into `out` and gives the number and the place.
 ///
 /// On every number but 0, `out` is untouched.
 pub fn describe(a: u64, e: u64, out: &mut [u8]) -> (u8, usize) {

@@ -1,4 +1,4 @@
-//! The decoder: case T10 and rows worked by hand, the rule of halves, and messages read back.
+//! The decoder: case T10 (docs/SOURCES.md) and rows worked by hand, the rule of halves, and messages read back.
 
 use reference::decoding::{CERTAIN, decided, descrambled, f, g, gathered};
 use reference::{CODED_LENGTHS, Kind, Layout, decode, encode, layout, loopback, noiseless};
@@ -84,7 +84,7 @@ fn rows_of_four() {
     assert_eq!(decided(&[2, 3], vec![-5, 1, 3, -4]).u, [0, 0, 0, 1]);
 }
 
-/// Document 01's rule as it stands there: each half is decoded by the same rule.
+/// The rule as docs/SOURCES.md's document 01 has it: each half is decoded by the same rule.
 fn by_halves(row: &[i64], first: usize, chosen: &[usize]) -> Vec<u8> {
     if let [value] = row {
         return vec![u8::from(chosen.contains(&first) && *value < 0)];

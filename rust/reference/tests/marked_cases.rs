@@ -1,4 +1,4 @@
-//! The marked cases of the scope paper that concern coding: T1 to T9, T11 and T12.
+//! The marked cases (docs/SOURCES.md) that concern coding: T1 to T9, T11 and T12.
 
 use reference::{Kind, Layout, encode, interleaver, layout, rate_matching, selected};
 use std::collections::BTreeSet;

@@ -28,12 +28,12 @@
 //! | number | answer | given when |
 //! |---|---|---|
 //! | 0 | `Ok(())` | done: the output holds E bits ([`encode`]), A bits ([`decode`], [`loopback`]) or 512 roles ([`describe`]) |
-//! | 1 | [`Refusal::PayloadSize`] | the payload size A is outside 12..140 |
+//! | 1 | [`Refusal::PayloadSize`] | the payload size A is outside 12..=140 |
 //! | 2 | [`Refusal::CodedLength`] | the coded length E is not among 108, 216, 432, 864, 1728 |
 //! | 3 | [`Refusal::TooManyBits`] | A + 24 is more than E |
 //! | 4 | [`Refusal::InputLength`] | the payload's length is not A, or there are not E soft values or strengths |
 //! | 5 | [`Refusal::OutputLength`] | the output's length is not E ([`encode`]), A ([`decode`], [`loopback`]) or 512 ([`describe`]) |
-//! | 6 | [`Refusal::BadEntry`] | a payload byte above 1, a soft value outside -127..127 or a strength outside 1..127; carries the place of the first |
+//! | 6 | [`Refusal::BadEntry`] | a payload byte above 1, a soft value outside -127..=127 or a strength outside 1..=127; carries the place of the first |
 //! | 7 | [`Refusal::ParityMismatch`] | decoding ran, and the parity does not match; from [`decode`] alone |
 //!
 //! [`describe`], and [`Code`] over it, tell what each position of a code is for.
@@ -57,7 +57,7 @@ pub struct Numbers {
 /// Why a call gave no result. The first that applies, in this order, is given.
 #[derive(Clone, Copy, Debug, PartialEq, Eq)]
 pub enum Refusal {
-    /// The payload size A is outside 12..140.
+    /// The payload size A is outside 12..=140.
     PayloadSize,
     /// The coded length E is not among 108, 216, 432, 864 and 1728.
     CodedLength,
@@ -67,7 +67,7 @@ pub enum Refusal {
     InputLength,
     /// The output's length is not E (coding), A (decoding and loop-back) or 512 (describing a code).
     OutputLength,
-    /// A payload byte is above 1, a soft value outside -127..127 or a strength outside 1..127; the
+    /// A payload byte is above 1, a soft value outside -127..=127 or a strength outside 1..=127; the
     /// first such entry stands at this place of the input.
     BadEntry(usize),
     /// The soft values were decoded, and the parity does not match: no payload is accepted.
@@ -92,7 +92,7 @@ impl Refusal {
 impl fmt::Display for Refusal {
     fn fmt(&self, f: &mut fmt::Formatter<'_>) -> fmt::Result {
         match self {
-            Refusal::PayloadSize => f.write_str("the payload size is outside 12..140"),
+            Refusal::PayloadSize => f.write_str("the payload size is outside 12 to 140"),
             Refusal::CodedLength => {
                 f.write_str("the coded length is not among 108, 216, 432, 864, 1728")
             }
@@ -192,7 +192,7 @@ pub fn encode(numbers: &Numbers, payload: &[u8], out: &mut [u8]) -> Result<(), R
 /// Reads the payload back from soft values, and checks its parity.
 ///
 /// `soft` has a value for each coded bit, in the order of [`encode`]'s output and still scrambled: its
-/// log-likelihood ratio, scaled to -127..127. Positive leans to bit 0, negative to bit 1, and 0 says
+/// log-likelihood ratio, scaled to -127..=127. Positive leans to bit 0, negative to bit 1, and 0 says
 /// nothing. Where the parity matches, `out` takes the payload.
 ///
 /// Any numbers, lengths and values may be handed in. On a refusal `out` is untouched.
@@ -287,7 +287,7 @@ pub fn loopback(
     read(answer, 6)
 }
 
-/// Writes what each of the positions 0..511 of the code for `a` and `e` is for into `out`: 0 frozen,
+/// Writes what each of the positions 0..=511 of the code for `a` and `e` is for into `out`: 0 frozen,
 /// 1 information, 2 frozen because of puncturing, 3 because of shortening, 4 not a position of this
 /// code. [`Code`] is the same with names.
 ///

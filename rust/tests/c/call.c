@@ -1,6 +1,7 @@
 /*
  * call numbers
  * call roles
+ * call version
  * call encode   A E RNTI N_ID OUT_LEN PAYLOAD
  * call decode   A E RNTI N_ID OUT_LEN SOFT
  * call loopback A E RNTI N_ID OUT_LEN PAYLOAD STRENGTHS
@@ -9,7 +10,7 @@
  * One call through the header, from C or C++. The last arguments are lists with
  * a comma behind each entry; the output starts as 9s; describing takes no RNTI
  * and no N_ID. Prints the number, the place and the output; or the numbers of
- * the header in their order, or its roles and their count.
+ * the header in their order, its roles and their count, or its version twice.
  */
 #include <stdio.h>
 #include <stdlib.h>
@@ -57,6 +58,13 @@ static int print_roles(void)
     return 0;
 }
 
+static int print_version(void)
+{
+    printf("%d.%d.%d %s\n", SPELT_VERSION_MAJOR, SPELT_VERSION_MINOR,
+           SPELT_VERSION_PATCH, SPELT_VERSION);
+    return 0;
+}
+
 static int print_answer(uint64_t r, size_t out_len)
 {
     printf("%d %zu ", SPELT_NUMBER(r), SPELT_PLACE(r));
@@ -72,6 +80,8 @@ int main(int argc, char **argv)
         return print_numbers();
     if (argc == 2 && strcmp(argv[1], "roles") == 0)
         return print_roles();
+    if (argc == 2 && strcmp(argv[1], "version") == 0)
+        return print_version();
     if (argc < 7)
         return 2;
     uint64_t a = strtoull(argv[2], NULL, 10), e = strtoull(argv[3], NULL, 10);

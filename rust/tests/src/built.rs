@@ -1,6 +1,7 @@
 //! What programs in C are built from.
 
 use std::env;
+use std::fs;
 use std::path::{Path, PathBuf};
 use std::process::{Command, Stdio};
 
@@ -17,6 +18,13 @@ pub fn include() -> PathBuf {
 /// A program of these tests.
 pub fn source(name: &str) -> PathBuf {
     root().join("rust/tests/c").join(name)
+}
+
+/// The program in C that README shows.
+pub fn program_of_readme() -> String {
+    let readme = fs::read_to_string(root().join("README.md")).expect("README.md");
+    let (_, rest) = readme.split_once("```c\n").expect("a C program");
+    rest.split_once("```").expect("its end").0.to_string()
 }
 
 pub fn archive() -> PathBuf {

@@ -2,6 +2,7 @@
 
 pub mod built;
 pub mod calls;
+pub mod documents;
 pub mod faults;
 pub mod rows;
 pub mod trials;

@@ -1,8 +1,9 @@
 //! The header, as C and C++ compilers read it, declares what the archive exports.
 
 use conformance::Random;
-use conformance::built::{archive, include, is_found, source};
+use conformance::built::{archive, include, is_found, program_of_readme, root, source};
 use conformance::rows::strengths;
+use std::fs;
 use std::io::Write;
 use std::path::{Path, PathBuf};
 use std::process::{Command, Stdio};
@@ -177,6 +178,9 @@ fn assert_language(compiler: &str, language: &[&str], name: &str) {
     assert_eq!(numbers, "0 1 2 3 4 5 6 7\n");
     let roles = printed(&program, &["roles".into()]);
     assert_eq!(roles, "0 1 2 3 4 512\n");
+    let version = env!("CARGO_PKG_VERSION");
+    let said = printed(&program, &["version".into()]);
+    assert_eq!(said, format!("{version} {version}\n"));
     let mut random = Random::new(SEED);
     assert_coding(&program, &mut random);
     assert_decoding(&program, &mut random);
@@ -198,42 +202,80 @@ fn cpp_gets_the_same_bits() {
 const LONE: &str = "\
 #include \"speltfeather.h\"
 #include \"speltfeather.h\"
+#if SPELT_VERSION_MAJOR < 0 || SPELT_VERSION_MINOR < 0 || SPELT_VERSION_PATCH < 0
+#error no version
+#endif
 int number(uint64_t r);
 int number(uint64_t r) { return SPELT_NUMBER(r); }
 size_t place(uint64_t r);
 size_t place(uint64_t r) { return SPELT_PLACE(r); }
 ";
 
-fn assert_taken(compiler: &str, language: &str, standard: &str) {
+/// A compiler's languages, its standards of each, and the names that it may have.
+const LANGUAGES: [(&str, &[&str], [&str; 3]); 2] = [
+    (
+        "c",
+        &["-std=c99", "-std=c11", "-std=c17"],
+        ["cc", "gcc", "clang"],
+    ),
+    (
+        "c++",
+        &["-std=c++11", "-std=c++14", "-std=c++17", "-std=c++20"],
+        ["c++", "g++", "clang++"],
+    ),
+];
+
+/// Every standard of both languages must take a text without a warning.
+fn assert_taken(name: &str, text: &str) {
+    for (language, standards, compilers) in LANGUAGES {
+        assert!(is_found(compilers[0]), "{}", compilers[0]);
+        for compiler in compilers.into_iter().filter(|name| is_found(name)) {
+            for standard in standards {
+                let taken = is_taken(compiler, language, standard, text);
+                assert!(taken, "{compiler} {standard} takes {name}");
+            }
+        }
+    }
+}
+
+fn is_taken(compiler: &str, language: &str, standard: &str, text: &str) -> bool {
+    // Casts in the manner of C are C++'s to warn of.
+    let casts: &[&str] = match language {
+        "c++" => &["-Wold-style-cast"],
+        _ => &[],
+    };
     let mut child = Command::new(compiler)
         .args(["-fsyntax-only", "-x", language, standard, "-pedantic"])
         .args(["-Wall", "-Wextra", "-Wconversion", "-Wsign-conversion"])
-        .args(["-Wundef", "-Werror", "-I"])
+        .args(["-Wundef", "-Werror"])
+        .args(casts)
+        .arg("-I")
         .arg(include())
         .arg("-")
         .stdin(Stdio::piped())
         .spawn()
         .expect("a compiler");
     let mut input = child.stdin.take().expect("a pipe");
-    input.write_all(LONE.as_bytes()).expect("a reader");
+    input.write_all(text.as_bytes()).expect("a reader");
     drop(input);
-    let status = child.wait().expect("an end");
-    assert!(status.success(), "{compiler} {standard} takes the header");
+    child.wait().expect("an end").success()
 }
 
 #[test]
 fn every_standard_takes_the_header() {
-    let c = ["-std=c99", "-std=c11", "-std=c17"];
-    let cpp = ["-std=c++11", "-std=c++14", "-std=c++17", "-std=c++20"];
-    for (language, standards, compilers) in [
-        ("c", &c[..], ["cc", "gcc", "clang"]),
-        ("c++", &cpp[..], ["c++", "g++", "clang++"]),
-    ] {
-        assert!(is_found(compilers[0]), "{}", compilers[0]);
-        for compiler in compilers.into_iter().filter(|name| is_found(name)) {
-            for standard in standards {
-                assert_taken(compiler, language, standard);
-            }
-        }
+    assert_taken("the header", LONE);
+}
+
+#[test]
+fn every_standard_takes_the_examples() {
+    let examples = fs::read_dir(root().join("examples/c")).expect("the examples");
+    let examples: Vec<PathBuf> = examples
+        .map(|entry| entry.expect("an entry").path())
+        .collect();
+    assert!(!examples.is_empty());
+    for example in examples {
+        let text = fs::read_to_string(&example).expect("an example");
+        assert_taken(&example.display().to_string(), &text);
     }
+    assert_taken("README's program", &program_of_readme());
 }

@@ -1,6 +1,6 @@
 //! What a user does first: `make`, `make install`, then the C example built by its one line.
 
-use conformance::built::root;
+use conformance::built::{program_of_readme, root};
 use std::env;
 use std::fs;
 use std::os::unix::fs::{PermissionsExt, symlink};
@@ -61,13 +61,6 @@ fn built(source: &Path, prefix: &Path) -> String {
     run(&mut Command::new(&program))
 }
 
-/// The program that README shows.
-fn shown_in_readme() -> String {
-    let readme = fs::read_to_string(root().join("README.md")).expect("README.md");
-    let (_, rest) = readme.split_once("```c\n").expect("a C program");
-    rest.split_once("```").expect("its end").0.to_string()
-}
-
 /// Asserts that anyone may run the command, and that it is of this release and codes.
 fn assert_command(dci: &Path) {
     let mode = fs::metadata(dci).expect("the command").permissions().mode();
@@ -95,7 +88,7 @@ fn what_is_installed_builds_the_examples() {
     let said = built(&example, &prefix);
     assert!(said.ends_with("another RNTI: no message\n"), "{said}");
     let shown = room.join("readme.c");
-    fs::write(&shown, shown_in_readme()).expect("a file");
+    fs::write(&shown, program_of_readme()).expect("a file");
     assert_eq!(built(&shown, &prefix), "a message\n");
 
     made("uninstall", &prefix);

@@ -1,4 +1,5 @@
-//! The library's output against published words and against the scope paper's examples.
+//! The library's output against published words (sources 001 and 002 of docs/SOURCES.md), and against
+//! the cases of document 01 there that are not marked.
 
 use conformance::{Call, Decode, Encode, Random, sent_bits};
 use reference::{Kind, Layout, construction, layout, noiseless, published, rate_matching};

@@ -1,6 +1,6 @@
-//! The main job on a small real example: the message that announces SIB1, as source document 001
-//! recorded it, is coded, sent through noise and read back. Then some calls that are refused, and the
-//! self-test on every accepted size.
+//! The main job on a small real example: the message that announces SIB1, as it was recorded (source
+//! 001 of docs/SOURCES.md), is coded, sent through noise and read back. Then some calls that are
+//! refused, and the self-test on every accepted size.
 
 use channel::{Channel, Random};
 use cli::{answers, picture, text};
@@ -136,7 +136,7 @@ fn show_refusal(call: &str, answer: Result<(), Refusal>) {
     );
 }
 
-/// Demand 3 on one message for each accepted pair of sizes, with strengths from 1 to 127.
+/// Promise 3 on one message for each accepted pair of sizes, with strengths from 1 to 127.
 fn show_self_test() {
     say!("\n4. Self-test: coded, given uneven strengths, and read back\n");
     let mut random = Random::new(SEED);
