@@ -50,8 +50,8 @@ pub record Borders : Type 0 where
   pub nine-eighths : (n1 36 144 ≡ 7) × (n1 36 145 ≡ 8)
   -- 16K is below 9E: 1280 and 1296 against 1296
   pub nine-sixteenths : (n1 80 144 ≡ 7) × (n1 81 144 ≡ 8)
-  -- ceil(log2 8K): of 128 and 136
-  pub eight-k : (n2 16 ≡ 7) × (n2 17 ≡ 8)
+  -- ceil(log2 8K), of 128 and 136; it limits n
+  pub eight-k : (n2 16 ≡ 7) × (n2 17 ≡ 8) × (n 8 128 ≡ 6)
   -- N is at least 32 and at most 512
   pub floor : (n 1 16 ≡ 5) × (n 4 32 ≡ 5) × (n 8 64 ≡ 6)
   pub ceiling : (n 164 512 ≡ 9) × (n 164 1024 ≡ 9)
@@ -68,7 +68,7 @@ unfolding log2up n1 n2 n lowRate rateMatching front
 borders = record {
   nine-eighths = (refl, refl);
   nine-sixteenths = (refl, refl);
-  eight-k = (refl, refl);
+  eight-k = (refl, refl, refl);
   floor = (refl, refl, refl);
   ceiling = (refl, refl);
   repeated = (refl, refl);
