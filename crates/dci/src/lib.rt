@@ -21,14 +21,14 @@ fn write(numbers: Numbers, payload: &[u8], out: &mut [u8])
     requires { ⌜ (refusal (numbers .a) (numbers .e) ≡ 0) × (length (now payload) ≡ numbers .a) × (length (now out) ≡ numbers .e) × Bits (now payload) ⌝ }
     ensures { λ _. ⌜ now (out .exit) ≡ coded (layout (K (numbers .a)) (numbers .e)) (numbers .e) (numbers .rnti) (cInit numbers) (now (payload .entry)) ⌝ }
 {
-    let l = construction::construct(numbers.a, numbers.e);
-    let n = l.n;
-    let kind = l.kind;
-    let positions = l.positions;
+    let code = construction::construct(numbers.a, numbers.e);
+    let n = code.n;
+    let kind = code.kind;
+    let positions = code.positions;
     let k = payload.len() + 24;
     let rnti = numbers.rnti;
-    let start = numbers.n_id as u32;
-    sender::send(n, kind, &positions[..k], rnti, start, payload, out);
+    let c_init = numbers.n_id as u32;
+    sender::send(n, kind, &positions[..k], rnti, c_init, payload, out);
 }
 
 // Codes a payload of A bits into E bits, or answers with the first number of 1 to 6 that applies and leaves the output as it is.

@@ -39,8 +39,8 @@ pub extern "C" fn spelt_encode(
 ) -> u64
     ensures { λ r. ⌜ Returns (coding (numbers a e rnti «n_id») (now (payload .entry)) (now (out .entry))) r (now (out .exit)) ⌝ }
 {
-    let answer = dci::encode(Numbers { a, e, rnti, n_id }, payload, out);
-    pack(answer)
+    let encoded = dci::encode(Numbers { a, e, rnti, n_id }, payload, out);
+    pack(encoded)
 }
 
 // Decodes soft values: `dci::decode`.
@@ -73,8 +73,8 @@ pub extern "C" fn spelt_loopback(
 ) -> u64
     ensures { λ r. ⌜ Returns (looped (numbers a e rnti «n_id») (now (payload .entry)) (now (strengths .entry)) (now (out .entry))) r (now (out .exit)) ⌝ }
 {
-    let answer = self_test::loopback(Numbers { a, e, rnti, n_id }, payload, strengths, out);
-    pack(answer)
+    let looped = self_test::loopback(Numbers { a, e, rnti, n_id }, payload, strengths, out);
+    pack(looped)
 }
 
 // What each position of a code is for: `dci::describe`.
@@ -82,6 +82,6 @@ pub extern "C" fn spelt_loopback(
 pub extern "C" fn spelt_describe(a: u64, e: u64, out: &mut [u8]) -> u64
     ensures { λ r. ⌜ Returns (describing a e (now (out .entry))) r (now (out .exit)) ⌝ }
 {
-    let answer = dci::describe(a, e, out);
-    pack(answer)
+    let described = dci::describe(a, e, out);
+    pack(described)
 }

@@ -17,14 +17,26 @@ use Rattle.dci.proofs.write.Tie as tie
 size : (c : tie.Start) → length (c .args .payload .now) + 24 ≡ K (c .args .numbers .a)
 size c = ap (λ (m : ℕ). m + 24) (c .pre .1)
 
+returns : tie.Need-returns
+returns c =
+    let v = c .before .before in
+    let k = v .before .before .before .before .before in
+    let s = k .before .before .before in
+    let n = s .args .numbers in
+    let l = k .construct .result in
+    let same : code (l .n) (l .kind) (take (length (s .args .payload .now) + 24) (l .positions)) ≡ layout (K (n .a)) (n .e) =
+    rw (size s) (code-is (n .a) (n .e) (s .pre .0) l (k .construct .ensures)) in
+    v .send .ensures
+    ∙ ap₂ (λ (l : Layout) (e : ℕ). coded l e (n .rnti) (n .«n_id») (s .args .payload .now)) same (s .pre .2)
+
 construct-requires : tie.Need-construct-requires
 construct-requires c κs = search needs
 
 add-k : tie.Need-add-k
 add-k c = search needs
 
-cast-start : tie.Need-cast-start
-cast-start c = search needs
+cast-c-init : tie.Need-cast-c-init
+cast-c-init c = search needs
 
 array-share-prefix-positions : tie.Need-array-share-prefix-positions
 array-share-prefix-positions c =
@@ -54,25 +66,13 @@ send-requires c κs =
 same-length : tie.Need-same-length
 same-length c = search needs
 
-returns : tie.Need-returns
-returns c =
-    let v = c .before .before in
-    let k = v .before .before .before .before .before in
-    let s = k .before .before .before in
-    let n = s .args .numbers in
-    let l = k .construct .result in
-    let same : code (l .n) (l .kind) (take (length (s .args .payload .now) + 24) (l .positions)) ≡ layout (K (n .a)) (n .e) =
-    rw (size s) (code-is (n .a) (n .e) (s .pre .0) l (k .construct .ensures)) in
-    v .send .ensures
-    ∙ ap₂ (λ (l : Layout) (e : ℕ). coded l e (n .rnti) (n .«n_id») (s .args .payload .now)) same (s .pre .2)
-
 pub write-spec : {M : Type 1} → statement M
 write-spec =
     tie.close
     (tie.spec
     construct-requires
     add-k
-    cast-start
+    cast-c-init
     array-share-prefix-positions
     slice-aggregate-send
     send-requires
