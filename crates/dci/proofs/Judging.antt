@@ -14,10 +14,9 @@ use Rattle.nr.specs.Rows.{entries, Bits}
 use Rattle.nr.specs.Numbers.{K}
 use Rattle.nr.specs.Answer.{refusal, outcome, given}
 use Rattle.nr.specs.Parity.{maskRnti, parityMatches}
-use Rattle.nr.specs.Interleaver.{deinterleave}
 use Rattle.nr.specs.Construction.{layout}
 use Rattle.nr.specs.Scrambling.{cInit}
-use Rattle.nr.specs.Decoding.{decided, received, orParity}
+use Rattle.nr.specs.Decoding.{decided, maskedRow, received, orParity}
 use Rattle.nr.proofs.Rows.{length-entries}
 use Rattle.nr.proofs.Zip.{bits-entries}
 use Rattle.nr.proofs.Parity.{maskRnti-front}
@@ -28,9 +27,9 @@ use Rattle.rows.proofs.Parts.{front-back, front-room, front-size}
 use Rattle.dci.specs.Judged.{judged}
 
 module _ (s : Numbers) (ok : refusal (s .a) (s .e) ≡ 0) (soft : List ℤ) (out : List ℕ) (size : length out ≡ s .a) where
-  -- the row as it was received, the RNTI on it
+  -- the row before its RNTI is taken off
   abbrev c : List ℕ
-  c = deinterleave (entries (layout (K (s .a)) (s .e) .positions) (decided (layout (K (s .a)) (s .e)) (s .e) (cInit s) soft))
+  c = maskedRow (layout (K (s .a)) (s .e)) (s .e) (cInit s) soft
 
   abbrev b : List ℕ
   b = received (layout (K (s .a)) (s .e)) (s .e) (s .rnti) (cInit s) soft

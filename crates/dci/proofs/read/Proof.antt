@@ -5,11 +5,9 @@ use native.Mathlib.Omega.{arith}
 use mathlib.Core.Path.{_≡_, sym, subst, ap₂, _∙_}
 use lib.ListN.{length, take}
 use borrow.Author.Needs.{needs}
-use Rattle.nr.specs.Rows.{entries}
 use Rattle.nr.specs.Numbers.{K}
-use Rattle.nr.specs.Interleaver.{deinterleave}
 use Rattle.nr.specs.Construction.{Layout, layout}
-use Rattle.nr.specs.Decoding.{decided}
+use Rattle.nr.specs.Decoding.{maskedRow}
 use Rattle.nr.proofs.Construction.{accepted}
 use Rattle.nr.proofs.Refusals.{longest}
 use Rattle.polar.specs.Codes.{code}
@@ -27,7 +25,7 @@ returns c =
     let same : code (l .n) (l .kind) (take (length (s .args .row .now)) (l .positions)) ≡ layout (K (n .a)) (n .e) =
     rw (s .pre .2) (code-is (n .a) (n .e) (s .pre .0) l (k .construct .ensures)) in
     v .receive .ensures
-    ∙ ap₂ (λ (l : Layout) (e : ℕ). deinterleave (entries (l .positions) (decided l e (n .«n_id») (s .args .soft .now)))) same (s .pre .1)
+    ∙ ap₂ (λ (l : Layout) (e : ℕ). maskedRow l e (n .«n_id») (s .args .soft .now)) same (s .pre .1)
 
 construct-requires : tie.Need-construct-requires
 construct-requires c κs = search needs
