@@ -15,10 +15,14 @@ use Rattle.dci.proofs.Made.{code-is, enough, exact, low, high, fits, la
 use Rattle.dci.proofs.read.Statement.{statement}
 use Rattle.dci.proofs.read.Tie as tie
 
+-- the layout, behind the arguments of `receive`
+abbrev laid-out : tie.After-receive-arg → tie.After-construct
+laid-out c = c .before .before .before .before
+
 returns : tie.Need-returns
 returns c =
     let v = c .before .before in
-    let k = v .before .before .before .before .before in
+    let k = laid-out (v .before) in
     let s = k .before .before in
     let n = s .args .numbers in
     let l = k .construct .result in
@@ -49,7 +53,7 @@ slice-aggregate-receive c =
 
 receive-requires : tie.Need-receive-requires
 receive-requires c κs =
-    let k = c .before .before .before .before in
+    let k = laid-out c in
     let s = k .before .before in
     let n = s .args .numbers in
     let l = k .construct .result in
