@@ -21,6 +21,18 @@ size c = ap (λ (m : ℕ). m + 24) (c .pre .1)
 abbrev laid-out : tie.After-send-arg → tie.After-construct
 laid-out c = c .before .before .before .before
 
+returns : tie.Need-returns
+returns c =
+    let v = c .before .before in
+    let k = laid-out (v .before) in
+    let s = k .before .before .before in
+    let n = s .args .numbers in
+    let l = k .construct .result in
+    let same : code (l .n) (l .kind) (take (length (s .args .payload .now) + 24) (l .positions)) ≡ layout (K (n .a)) (n .e) =
+    rw (size s) (code-is (n .a) (n .e) (s .pre .0) l (k .construct .ensures)) in
+    v .send .ensures
+    ∙ ap₂ (λ (l : Layout) (e : ℕ). coded l e (n .rnti) (n .«n_id») (s .args .payload .now)) same (s .pre .2)
+
 construct-requires : tie.Need-construct-requires
 construct-requires c κs = search needs
 
@@ -57,18 +69,6 @@ send-requires c κs =
 
 same-length : tie.Need-same-length
 same-length c = search needs
-
-returns : tie.Need-returns
-returns c =
-    let v = c .before .before in
-    let k = laid-out (v .before) in
-    let s = k .before .before .before in
-    let n = s .args .numbers in
-    let l = k .construct .result in
-    let same : code (l .n) (l .kind) (take (length (s .args .payload .now) + 24) (l .positions)) ≡ layout (K (n .a)) (n .e) =
-    rw (size s) (code-is (n .a) (n .e) (s .pre .0) l (k .construct .ensures)) in
-    v .send .ensures
-    ∙ ap₂ (λ (l : Layout) (e : ℕ). coded l e (n .rnti) (n .«n_id») (s .args .payload .now)) same (s .pre .2)
 
 pub write-spec : {M : Type 1} → statement M
 write-spec =

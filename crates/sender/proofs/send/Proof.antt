@@ -64,6 +64,16 @@ selected-is c =
     c .select .ensures
     ∙ ap (select (s .args .kind) (2 ^ s .args .n) (length (s .args .out .now))) (lent k ∙ k .code-word .ensures)
 
+returns : tie.Need-returns
+unfolding selected coded
+returns c =
+    let x = c .before .before in
+    let v = x .before .before .before .before in
+    let s = start (word-behind v .before) in
+    let e = selected-is v in
+    x .scramble .ensures
+    ∙ ap₂ (λ (row : List ℕ) (m : ℕ). xors row (gold (s .args .start) m)) e (ap length e ∙ length-select _ _ _ _)
+
 shl-len : tie.Need-shl-len
 shl-len c = search needs
 
@@ -99,16 +109,6 @@ scramble-requires c κs =
 
 same-length : tie.Need-same-length
 same-length c = search needs
-
-returns : tie.Need-returns
-unfolding selected coded
-returns c =
-    let x = c .before .before in
-    let v = x .before .before .before .before in
-    let s = start (word-behind v .before) in
-    let e = selected-is v in
-    x .scramble .ensures
-    ∙ ap₂ (λ (row : List ℕ) (m : ℕ). xors row (gold (s .args .start) m)) e (ap length e ∙ length-select _ _ _ _)
 
 pub send-spec : {M : Type 1} → statement M
 send-spec =
