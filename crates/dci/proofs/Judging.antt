@@ -14,10 +14,9 @@ use Rattle.nr.specs.Rows.{entries, Bits}
 use Rattle.nr.specs.Numbers.{K}
 use Rattle.nr.specs.Answer.{refusal, outcome, given}
 use Rattle.nr.specs.Parity.{maskRnti, parityMatches}
-use Rattle.nr.specs.Interleaver.{deinterleave}
-use Rattle.nr.specs.Construction.{layout}
+use Rattle.nr.specs.Construction.{Layout, layout}
 use Rattle.nr.specs.Scrambling.{cInit}
-use Rattle.nr.specs.Decoding.{decided, received, orParity}
+use Rattle.nr.specs.Decoding.{decided, maskedRow, received, orParity}
 use Rattle.nr.proofs.Rows.{length-entries}
 use Rattle.nr.proofs.Zip.{bits-entries}
 use Rattle.nr.proofs.Parity.{maskRnti-front}
@@ -27,13 +26,39 @@ use Rattle.nr.proofs.Construction.{accepted, positions}
 use Rattle.rows.proofs.Parts.{front-back, front-room, front-size}
 use Rattle.dci.specs.Judged.{judged}
 
-module _ (s : Numbers) (ok : refusal (s .a) (s .e) ≡ 0) (soft : List ℤ) (out : List ℕ) (size : length out ≡ s .a) where
-  -- the row as it was received, the RNTI on it
+-- what is asked of A, E and the output
+pub record Asked (s : Numbers) (out : List ℕ) : Type 0 where
+  pub ok : refusal (s .a) (s .e) ≡ 0
+  pub size : length out ≡ s .a
+
+-- the part of the row that was lent came back as `row`
+pub record Back (s : Numbers) (soft : List ℤ) (out : List ℕ) : Type 0 where
+  pub asked : Asked s out
+  pub row : List ℕ
+  pub kept : length row ≡ length {A = ℕ} (take (length out + 24) (replicate 164 0))
+  pub is : row ≡ maskedRow (layout (K (s .a)) (s .e)) (s .e) (cInit s) soft
+
+module _ {s : Numbers} {out : List ℕ} (asked : Asked s out) where
+  -- K, by the output's length
+  pub most : length out + 24 ≤ 164
+  most = omega (arith, asked .size, accepted (s .a) (s .e) (asked .ok) .high)
+
+  pub lent-size : length {A = ℕ} (take (length out + 24) (replicate 164 0)) ≡ length out + 24
+  lent-size = front-size (length out + 24) 164 0 most
+
+module _ {s : Numbers} {soft : List ℤ} {out : List ℕ} (k : Back s soft out) where
+  abbrev l : Layout
+  l = layout (K (s .a)) (s .e)
+
+  -- the decided bits, the row that they give and that without its RNTI
+  abbrev u : List ℕ
+  u = decided l (s .e) (cInit s) soft
+
   abbrev c : List ℕ
-  c = deinterleave (entries (layout (K (s .a)) (s .e) .positions) (decided (layout (K (s .a)) (s .e)) (s .e) (cInit s) soft))
+  c = maskedRow l (s .e) (cInit s) soft
 
   abbrev b : List ℕ
-  b = received (layout (K (s .a)) (s .e)) (s .e) (s .rnti) (cInit s) soft
+  b = received l (s .e) (s .rnti) (cInit s) soft
 
   b-is : b ≡ maskRnti (s .rnti) c
   unfolding received
@@ -41,66 +66,59 @@ module _ (s : Numbers) (ok : refusal (s .a) (s .e) ≡ 0) (soft : List ℤ) (out
 
   length-c : length c ≡ K (s .a)
   length-c =
-      length-deinterleave (entries (layout (K (s .a)) (s .e) .positions) (decided (layout (K (s .a)) (s .e)) (s .e) (cInit s) soft))
-      ∙ length-entries (layout (K (s .a)) (s .e) .positions) (decided (layout (K (s .a)) (s .e)) (s .e) (cInit s) soft)
-      ∙ positions (K (s .a)) (s .e) (accepted (s .a) (s .e) ok) .size
+      length-deinterleave (entries (l .positions) u) ∙ length-entries (l .positions) u
+      ∙ positions (K (s .a)) (s .e) (accepted (s .a) (s .e) (k .asked .ok)) .size
 
   bits-c : Bits c
   unfolding decided
-  bits-c =
-      bits-deinterleave (entries (layout (K (s .a)) (s .e) .positions) (decided (layout (K (s .a)) (s .e)) (s .e) (cInit s) soft))
-      (bits-entries (layout (K (s .a)) (s .e) .positions) (decided (layout (K (s .a)) (s .e)) (s .e) (cInit s) soft) (bits-successive _ _ _))
+  bits-c = bits-deinterleave (entries (l .positions) u) (bits-entries (l .positions) u (bits-successive _ _ _))
 
-  -- K, by the output's length
-  pub most : length out + 24 ≤ 164
-  most = omega (arith, accepted (s .a) (s .e) ok .high)
+  -- the array with the part back in it, and that part
+  abbrev rest : List ℕ
+  rest = drop (length out + 24) (replicate 164 0)
 
-  pub lent-size : length {A = ℕ} (take (length out + 24) (replicate 164 0)) ≡ length out + 24
-  lent-size = front-size (length out + 24) 164 0 most
+  abbrev whole : List ℕ
+  whole = k .row ++ rest
 
-  -- the part of the row that was lent came back as r
-  module _ (r : List ℕ) (k : length r ≡ length {A = ℕ} (take (length out + 24) (replicate 164 0))) (q : r ≡ c) where
-    abbrev whole : List ℕ
-    whole = r ++ drop (length out + 24) (replicate 164 0)
+  abbrev part : List ℕ
+  part = take (length out + 24) whole
 
-    pub back-size : length r ≡ length out + 24
-    back-size = k ∙ lent-size
+  pub back-size : length (k .row) ≡ length out + 24
+  back-size = k .kept ∙ lent-size (k .asked)
 
-    back : take (length out + 24) whole ≡ c
-    back = front-back r (drop (length out + 24) (replicate 164 0)) (length out + 24) back-size ∙ q
+  part-row : part ≡ k .row
+  part-row = front-back (k .row) rest (length out + 24) back-size
 
-    pub part-size : length (take (length out + 24) (r ++ drop (length out + 24) (replicate 164 0))) ≡ length out + 24
-    part-size = ap length (front-back r (drop (length out + 24) (replicate 164 0)) (length out + 24) back-size) ∙ back-size
+  part-is : part ≡ c
+  part-is = part-row ∙ k .is
 
-    -- what the parity check asks
-    pub matches-asks : (24 ≤ length (take (length out + 24) (r ++ drop (length out + 24) (replicate 164 0))))
-        × Bits (take (length out + 24) (r ++ drop (length out + 24) (replicate 164 0)))
-    matches-asks = (omega (arith, part-size), subst Bits (sym back) bits-c)
+  pub part-size : length part ≡ length out + 24
+  part-size = ap length part-row ∙ back-size
 
-    -- the payload's part
-    pub payload-fits : length out ≤ length (r ++ drop (length out + 24) (replicate 164 0))
-    payload-fits = let h = front-room r (drop (length out + 24) (replicate 164 0)) (length out + 24) back-size in omega arith
+  -- what the parity check asks
+  pub matches-asks : (24 ≤ length part) × Bits part
+  matches-asks = (omega (arith, part-size), subst Bits (sym part-is) bits-c)
 
-    pub payload-size : length (take (length out) (r ++ drop (length out + 24) (replicate 164 0))) ≡ length out
-    payload-size = length-take-le (length out) whole payload-fits
+  -- the payload's part
+  pub payload-fits : length out ≤ length whole
+  payload-fits = let h = front-room (k .row) rest (length out + 24) back-size in omega arith
 
-    payload-is : take (length out) whole ≡ take (s .a) b
-    payload-is =
-        sym (take-take (length out) (length out + 24) whole (omega arith)) ∙ ap (take (length out)) back
-        ∙ ap (λ (m : ℕ). take m c) size
-        ∙ sym (ap (take (s .a)) b-is ∙ maskRnti-front (s .rnti) (s .a) c (omega (arith, length-c)) bits-c)
+  pub payload-size : length (take (length out) whole) ≡ length out
+  payload-size = length-take-le (length out) whole payload-fits
 
-    module _ (t : Bool)
-        (m : t ≡ parityMatches (length (take (length out + 24) (r ++ drop (length out + 24) (replicate 164 0))) - 24)
-        (maskRnti (s .rnti) (take (length out + 24) (r ++ drop (length out + 24) (replicate 164 0))))) where
-      matched : parityMatches (s .a) b ≡ t
-      matched =
-          let e : length (take (length out + 24) whole) - 24 ≡ s .a = omega (arith, part-size) in
-          sym (m ∙ ap₂ (λ (A : ℕ) (x : List ℕ). parityMatches A (maskRnti (s .rnti) x)) e back ∙ ap (parityMatches (s .a)) (sym b-is))
+  payload-is : take (length out) whole ≡ take (s .a) b
+  payload-is =
+      sym (take-take (length out) (length out + 24) whole (omega arith)) ∙ ap (take (length out)) part-is
+      ∙ ap (λ (m : ℕ). take m c) (k .asked .size)
+      ∙ sym (ap (take (s .a)) b-is ∙ maskRnti-front (s .rnti) (s .a) c (omega (arith, length-c)) bits-c)
 
-      -- 0 and the payload, or 7 and the old buffer
-      pub gives : (r′ : Answer) (new : List ℕ)
-          → given r′ new ≡ outcome (cond t 0 7) 0 (take (length out) (r ++ drop (length out + 24) (replicate 164 0))) out
-          → given r′ new ≡ judged s soft out
-      unfolding orParity
-      gives r′ new q = q ∙ ap₂ (λ (u : Bool) (x : List ℕ). outcome (cond u 0 7) 0 x out) (sym matched) payload-is
+  module _ (t : Bool) (m : t ≡ parityMatches (length part - 24) (maskRnti (s .rnti) part)) where
+    matched : parityMatches (s .a) b ≡ t
+    matched =
+        let e : length part - 24 ≡ s .a = omega (arith, part-size, k .asked .size) in
+        sym (m ∙ ap₂ (λ (A : ℕ) (x : List ℕ). parityMatches A (maskRnti (s .rnti) x)) e part-is ∙ ap (parityMatches (s .a)) (sym b-is))
+
+    -- 0 and the payload, or 7 and the old buffer
+    pub gives : (r : Answer) (new : List ℕ) → given r new ≡ outcome (cond t 0 7) 0 (take (length out) whole) out → given r new ≡ judged s soft out
+    unfolding orParity
+    gives r new q = q ∙ ap₂ (λ (u : Bool) (x : List ℕ). outcome (cond u 0 7) 0 x out) (sym matched) payload-is

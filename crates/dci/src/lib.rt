@@ -5,14 +5,13 @@ use nr::RateMatching;
 ghost use mathlib.Core.Path.{_≡_};
 ghost use mathlib.Core.Bool.{cond};
 ghost use lib.ListN.{length};
-ghost use Rattle.nr.specs.Rows.{entries, Bits, Within};
+ghost use Rattle.nr.specs.Rows.{Bits, Within};
 ghost use Rattle.nr.specs.Numbers.{K};
 ghost use Rattle.nr.specs.Answer.{refusal, outcome, given};
 ghost use Rattle.nr.specs.Construction.{layout};
-ghost use Rattle.nr.specs.Interleaver.{deinterleave};
 ghost use Rattle.nr.specs.Scrambling.{cInit};
 ghost use Rattle.nr.specs.Coding.{coded, coding};
-ghost use Rattle.nr.specs.Decoding.{decided, decoding};
+ghost use Rattle.nr.specs.Decoding.{maskedRow, decoding};
 ghost use Rattle.nr.specs.Describing.{describing};
 ghost use Rattle.dci.specs.Judged.{judged};
 
@@ -57,7 +56,7 @@ pub struct Decoded {
 // The row of payload and parity that E soft values give, the RNTI still on it.
 fn read(numbers: Numbers, soft: &[i32], row: &mut [u8])
     requires { ⌜ (refusal (numbers .a) (numbers .e) ≡ 0) × (length (now soft) ≡ numbers .e) × (length (now row) ≡ K (numbers .a)) × Within 127 (now soft) ⌝ }
-    ensures { λ _. ⌜ now (row .exit) ≡ deinterleave (entries (layout (K (numbers .a)) (numbers .e) .positions) (decided (layout (K (numbers .a)) (numbers .e)) (numbers .e) (cInit numbers) (now (soft .entry)))) ⌝ }
+    ensures { λ _. ⌜ now (row .exit) ≡ maskedRow (layout (K (numbers .a)) (numbers .e)) (numbers .e) (cInit numbers) (now (soft .entry)) ⌝ }
 {
     let l = construction::construct(numbers.a, numbers.e);
     let n = l.n;

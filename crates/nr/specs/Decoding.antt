@@ -22,9 +22,13 @@ decided l E start soft =
     successive (l .n) (marks (2 ^ l .n) (l .positions))
     (codeRow (l .kind) (2 ^ l .n) E (descramble (gold start E) soft))
 
--- the row b of payload and parity: the interleaver undone, the RNTI added again
+-- the row of payload and parity as it was sent: the interleaver undone, the RNTI still on it
+abbrev pub maskedRow : Layout → ℕ → ℕ → List ℤ → List ℕ
+maskedRow l E start soft = deinterleave (entries (l .positions) (decided l E start soft))
+
+-- the row b of payload and parity: the RNTI added again
 unfoldable pub received : Layout → ℕ → ℕ → ℕ → List ℤ → List ℕ
-received l E rnti start soft = maskRnti rnti (deinterleave (entries (l .positions) (decided l E start soft)))
+received l E rnti start soft = maskRnti rnti (maskedRow l E start soft)
 
 -- number 7 where the parity does not match, after the numbers before it
 unfoldable pub orParity : ℕ → ℕ → List ℕ → ℕ

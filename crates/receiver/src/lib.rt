@@ -5,10 +5,9 @@ ghost use mathlib.Core.Path.{_≡_};
 ghost use Prim.Native.Nat.{_≤_, _<_, _^_};
 ghost use lib.ListN.{length, replicate};
 ghost use Rattle.nr.specs.Rows.{entries, Within};
-ghost use Rattle.nr.specs.Interleaver.{deinterleave};
 ghost use Rattle.nr.specs.Scrambling.{gold};
 ghost use Rattle.nr.specs.SuccessiveDecoder.{descramble, codeRow, successive, marks};
-ghost use Rattle.nr.specs.Decoding.{decided};
+ghost use Rattle.nr.specs.Decoding.{decided, maskedRow};
 ghost use Rattle.nr.specs.RateMatching.{Fits};
 ghost use Rattle.polar.specs.Codes.{Positions, code};
 ghost use Rattle.successive_decoder.specs.Levels.{rowOf};
@@ -83,7 +82,7 @@ pub fn receive(
 )
     requires { ⌜ (5 ≤ n) × (n ≤ 9) × Fits kind (2 ^ n) (length (now soft)) × (length (now soft) ≤ 1728) × Within 127 (now soft) ⌝ }
     requires { ⌜ (start < 2 ^ 31) × Positions (2 ^ n) (now positions) × (length (now row) ≡ length (now positions)) ⌝ }
-    ensures { λ _. ⌜ now (row .exit) ≡ deinterleave (entries (now (positions .entry)) (decided (code n kind (now (positions .entry))) (length (now (soft .entry))) start (now (soft .entry)))) ⌝ }
+    ensures { λ _. ⌜ now (row .exit) ≡ maskedRow (code n kind (now (positions .entry))) (length (now (soft .entry))) start (now (soft .entry)) ⌝ }
 {
     let len = 1 << n;
     let k = positions.len();

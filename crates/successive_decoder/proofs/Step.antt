@@ -307,16 +307,16 @@ one-fits zero w z b = fits (getD w 1 (pos 0)) (subst (λ (x : ℤ). natAbs x ≤
 one-fits (suc k) w z b = absurd (omega arith)
 
 -- ---- the whole row, at the top
-module _ (n : ℕ) (few : n ≤ 9) (work : List ℤ) (marks est : List ℕ) (whole : length work ≡ 1024)
-    (lm : length marks ≡ 2 ^ n) (le : length est ≡ 2 ^ n) (small : Within (2 ^ 20) (rowOf (2 ^ n) work)) where
+module _ (n : ℕ) (few : n ≤ 9) (marks : List ℕ) (lm : length marks ≡ 2 ^ n) where
   power : 2 ^ n ≤ 2 ^ 9
   power = pow-mono {i = n} {j = 9} few
 
   pub marks-fit : length marks ≤ 512
   marks-fit = omega (arith, power)
 
-  pub top-ready : (sums : List ℕ) → length sums ≡ length marks → Ready n work marks est sums
-  top-ready sums ls = record {
+  pub top-ready : (work : List ℤ) (est sums : List ℕ) → length work ≡ 1024 → length est ≡ 2 ^ n → length sums ≡ length marks
+      → Within (2 ^ 20) (rowOf (2 ^ n) work) → Ready n work marks est sums
+  top-ready work est sums whole le ls small = record {
     few = few;
     whole = whole;
     marked = lm;

@@ -20,7 +20,10 @@ inside : (c : tie.Else1) → c .before .before .args .p < 2 ^ c .before .before 
 inside c = omega (arith, power (c .before .before))
 
 -- what the call of `rank` gives
-ranked : (c : tie.After-rank) → c .rank .result ≡ rank (c .before .before .before .before .before .args .n - 5) (c .before .before .before .before .before .args .p)
+abbrev start : tie.Else2 → tie.Start
+start c = c .before .before .before .before
+
+ranked : (c : tie.After-rank) → let a = start (c .before) .args in c .rank .result ≡ rank (a .n - 5) (a .p)
 ranked c = c .rank .ensures
 
 shl-if1 : tie.Need-shl-if1
@@ -41,20 +44,20 @@ sub-rank c = search needs
 
 rank-requires : tie.Need-rank-requires
 rank-requires c κs =
-    let s = c .before .before .before .before in
+    let s = start c in
     let e : s .args .n ≡ s .args .n - 5 + 5 = omega arith in
     (s .pre .0, omega arith, subst (λ (m : ℕ). s .args .p < 2 ^ m) e (inside (c .before .before)))
 
 returns-3 : tie.Need-returns-3
 returns-3 c =
     let k = c .before .before in
-    let s = k .before .before .before .before .before in
+    let s = start (k .before) in
     low (s .args .n) (s .args .w) (s .args .p) (inside (k .before .before .before)) (k .before .if2 .left) (omega (arith, ranked k))
 
 returns-4 : tie.Need-returns-4
 returns-4 c =
     let k = c .before .before .before in
-    let s = k .before .before .before .before .before in
+    let s = start (k .before) in
     ap (λ (r : ℕ). ltb r (s .args .w .hi)) (ranked k)
     ∙ rest (s .args .n) (s .args .w) (s .args .p) (inside (k .before .before .before)) (k .before .if2 .left) (omega (arith, ranked k))
 

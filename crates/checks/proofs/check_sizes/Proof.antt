@@ -1,71 +1,99 @@
--- `checks::check_sizes` meets its contract.
+-- `checks::check_sizes` meets its contract: at each place, the tests that are left decide the number.
 -- Assumes nothing.
-use mathlib.Core.Path.{_≡_, sym, _∙_}
-use mathlib.Core.Bool.{true, false}
-use borrow.Author.Tests.{not-true, not-false}
+use Prim.Native.Nat.{ℕ}
+use mathlib.Core.Path.{refl, sym, ap, _∙_}
+use mathlib.Core.Bool.{Bool, not}
+use mathlib.Core.List.{List, [], _∷_}
+use lib.Dec.{ltb, eqb}
+use borrow.Author.Tests.{lt-ltb, le-ltb, eq-eqb, ne-eqb}
 use Rattle.nr.specs.Rows.{has}
-use Rattle.nr.specs.Answer.{lengths}
-use Rattle.checks.proofs.Refusing.{too-small, too-large, not-listed, too-many, wrong-input, wrong-output, fine}
+use Rattle.nr.specs.Numbers.{K}
+use Rattle.nr.specs.Answer.{lengths, outside, number, placeOf}
+use Rattle.checks.specs.Checks.{sizeRefusal}
+use Rattle.checks.proofs.Refusing.{Left, applies, passes}
 use borrow.Author.Needs.{needs}
 use Rattle.checks.proofs.check_sizes.Statement.{statement}
 use Rattle.checks.proofs.check_sizes.Tie as tie
 
--- what the call of `is_coded_length` says, by the branch that follows it
-absent : (c : tie.Then3) → false ≡ has (c .before .before .before .before .args .e) lengths
-absent c = sym (not-true (c .before .is-coded-length .result) (c .if3 .taken)) ∙ c .before .is-coded-length .ensures
+-- ---- the tests from each number on, and what they decide
 
-present : (c : tie.Else3) → true ≡ has (c .before .before .before .before .args .e) lengths
-present c = sym (not-false (c .before .is-coded-length .result) (c .if3 .left)) ∙ c .before .is-coded-length .ensures
+module _ (s : tie.Start) where
+  abbrev from-5 : List Bool
+  from-5 = not (eqb (s .args .out) (s .args .wanted)) ∷ []
+
+  abbrev from-4 : List Bool
+  from-4 = not (eqb (s .args .input) (s .args .asked)) ∷ from-5
+
+  abbrev from-3 : List Bool
+  from-3 = ltb (s .args .e) (K (s .args .a)) ∷ from-4
+
+  abbrev from-2 : List Bool
+  from-2 = not (has (s .args .e) lengths) ∷ from-3
+
+  abbrev Decide : ℕ → List Bool → Type 0
+  Decide = Left (sizeRefusal (s .args .a) (s .args .e) (s .args .input) (s .args .asked) (s .args .out) (s .args .wanted))
+
+  all : Decide 1 (outside (s .args .a) ∷ from-2)
+  all = record { is = refl }
+
+-- ---- each place, by the one before it
+
+abbrev start : tie.Else2 → tie.Start
+start c = c .before .before
+
+left-2 : (c : tie.Else2) → Decide (start c) 2 (from-2 (start c))
+left-2 c = passes (all (start c)) (rw (le-ltb _ 12 (c .before .if1 .left), le-ltb 140 _ (c .if2 .left)))
+
+abbrev sized : tie.Else3 → tie.Start
+sized c = start (c .before .before)
+
+left-3 : (c : tie.Else3) → Decide (sized c) 3 (from-3 (sized c))
+left-3 c = passes (left-2 (c .before .before)) (ap not (sym (c .before .is-coded-length .ensures)) ∙ c .if3 .left)
+
+left-4 : (c : tie.Else4) → Decide (sized (c .before)) 4 (from-4 (sized (c .before)))
+left-4 c = passes (left-3 (c .before)) (le-ltb _ _ (c .if4 .left))
+
+left-5 : (c : tie.Else5) → Decide (sized (c .before .before)) 5 (from-5 (sized (c .before .before)))
+left-5 c = passes (left-4 (c .before)) (ap not (eq-eqb _ _ (c .if5 .left)))
+
+left-none : (c : tie.Else6) → Decide (sized (c .before .before .before)) 6 []
+left-none c = passes (left-5 (c .before)) (ap not (eq-eqb _ _ (c .if6 .left)))
+
+-- ---- the answers
 
 returns : tie.Need-returns
-returns c =
-    let a = c .before .args in
-    too-small (a .a) (a .e) (a .input) (a .asked) (a .out) (a .wanted) (c .if1 .taken)
+unfolding number placeOf
+returns c = record { number = applies (all (c .before)) (rw (lt-ltb _ 12 (c .if1 .taken))); place = refl }
 
 returns-2 : tie.Need-returns-2
-returns-2 c =
-    let a = c .before .before .args in
-    too-large (a .a) (a .e) (a .input) (a .asked) (a .out) (a .wanted) (c .before .if1 .left) (c .if2 .taken)
+unfolding number placeOf
+returns-2 c = record { number = applies (all (c .before .before)) (rw (le-ltb _ 12 (c .before .if1 .left), lt-ltb 140 _ (c .if2 .taken))); place = refl }
 
 is-coded-length-requires : tie.Need-is-coded-length-requires
 is-coded-length-requires c κs = search needs
 
 returns-3 : tie.Need-returns-3
-returns-3 c =
-    let s = c .before .before in
-    let a = s .before .before .args in
-    not-listed (a .a) (a .e) (a .input) (a .asked) (a .out) (a .wanted) (s .before .if1 .left) (s .if2 .left) (absent c)
+unfolding number placeOf
+returns-3 c = record { number = applies (left-2 (c .before .before)) (ap not (sym (c .before .is-coded-length .ensures)) ∙ c .if3 .taken); place = refl }
 
 add-if4 : tie.Need-add-if4
 add-if4 c = search needs
 
 returns-4 : tie.Need-returns-4
-returns-4 c =
-    let k = c .before in
-    let s = k .before .before in
-    let a = s .before .before .args in
-    too-many (a .a) (a .e) (a .input) (a .asked) (a .out) (a .wanted) (s .before .if1 .left) (s .if2 .left) (present k) (c .if4 .taken)
+unfolding number placeOf
+returns-4 c = record { number = applies (left-3 (c .before)) (lt-ltb _ _ (c .if4 .taken)); place = refl }
 
 returns-5 : tie.Need-returns-5
-returns-5 c =
-    let k = c .before .before in
-    let s = k .before .before in
-    let a = s .before .before .args in
-    wrong-input (a .a) (a .e) (a .input) (a .asked) (a .out) (a .wanted) (s .before .if1 .left) (s .if2 .left) (present k) (c .before .if4 .left) (c .if5 .taken)
+unfolding number placeOf
+returns-5 c = record { number = applies (left-4 (c .before)) (ap not (ne-eqb _ _ (c .if5 .taken))); place = refl }
 
 returns-6 : tie.Need-returns-6
-returns-6 c =
-    let k = c .before .before .before in
-    let s = k .before .before in
-    let a = s .before .before .args in
-    wrong-output (a .a) (a .e) (a .input) (a .asked) (a .out) (a .wanted) (s .before .if1 .left) (s .if2 .left) (present k) (c .before .before .if4 .left) (c .before .if5 .left) (c .if6 .taken)
+unfolding number placeOf
+returns-6 c = record { number = applies (left-5 (c .before)) (ap not (ne-eqb _ _ (c .if6 .taken))); place = refl }
 
 returns-7 : tie.Need-returns-7
-returns-7 c =
-    let k = c .before .before .before in
-    let s = k .before .before in
-    let a = s .before .before .args in
-    fine (a .a) (a .e) (a .input) (a .asked) (a .out) (a .wanted) (s .before .if1 .left) (s .if2 .left) (present k) (c .before .before .if4 .left) (c .before .if5 .left) (c .if6 .left)
+unfolding number placeOf
+returns-7 c = record { number = sym (left-none c .is); place = refl }
 
 pub check-sizes-spec : {M : Type 1} → statement M
 check-sizes-spec =

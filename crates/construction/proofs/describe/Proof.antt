@@ -3,7 +3,7 @@
 use Prim.Native.Nat.{ℕ, _^_, _≤_}
 use native.Mathlib.Omega.{arith}
 use mathlib.Core.Path.{_≡_, refl, sym, ap, _∙_}
-use mathlib.Core.List.{_++_}
+use mathlib.Core.List.{List, _++_}
 use lib.ListN.{length, take, drop, replicate}
 use Rattle.nr.specs.Numbers.{K}
 use Rattle.nr.specs.Construction.{P}
@@ -31,19 +31,30 @@ room : (x : tie.After-shape-of) → x .shape-of .result .len ≤ 512
 room x = omega (arith, x .shape-of .ensures .len, sizes x .len)
 
 -- the marks, which fill the part of the row that was lent
-size : (c : tie.After-mark) → length (c .mark .last .1 .1 .1 .0) ≡ c .before .before .before .before .shape-of .result .len
+abbrev shape-behind : tie.After-mark → tie.After-shape-of
+shape-behind c = c .before .before .before .before
+
+abbrev len : tie.After-mark → ℕ
+len c = shape-behind c .shape-of .result .len
+
+abbrev marked : tie.After-mark → List ℕ
+marked c = c .mark .last .1 .1 .1 .0
+
+size : (c : tie.After-mark) → length (marked c) ≡ len c
 size c =
-    let x = c .before .before .before .before in
+    let x = shape-behind c in
     ap length (c .mark .ensures) ∙ length-marks (2 ^ x .shape-of .result .n) _ ∙ sym (x .shape-of .ensures .len)
 
-lent : (c : tie.After-mark) → let len = c .before .before .before .before .shape-of .result .len in
-    take len (c .mark .last .1 .1 .1 .0 ++ drop len (replicate 512 0)) ≡ c .mark .last .1 .1 .1 .0
-lent c = front-back (c .mark .last .1 .1 .1 .0) _ (c .before .before .before .before .shape-of .result .len) (size c)
+lent : (c : tie.After-mark) → take (len c) (marked c ++ drop (len c) (replicate 512 0)) ≡ marked c
+lent c = front-back (marked c) _ (len c) (size c)
+
+abbrev mark-behind : tie.After-fill-arg → tie.After-mark
+mark-behind c = c .before .before .before .before
 
 returns : tie.Need-returns
 returns c =
     let f = c .before .before in
-    let k = f .before .before .before .before .before in
+    let k = mark-behind (f .before) in
     let b = k .before .before in
     let x = b .before .before in
     let s = x .before .before in
@@ -56,7 +67,7 @@ returns c =
 fill-requires : tie.Need-fill-requires
 unfolding ranks P
 fill-requires c κs =
-    let x = c .before .before .before .before .before .before .before .before in
+    let x = shape-behind (mark-behind c) in
     (refl, sizes x .low, sizes x .high)
 
 shape-of-requires : tie.Need-shape-of-requires
@@ -89,7 +100,7 @@ slice-aggregate-fill c = search needs
 array-share-prefix-row : tie.Need-array-share-prefix-row
 array-share-prefix-row c =
     let k = c .before .before in
-    front-room (k .mark .last .1 .1 .1 .0) _ _ (size k)
+    front-room (marked k) _ _ (size k)
 
 slice-aggregate-fill-2 : tie.Need-slice-aggregate-fill-2
 slice-aggregate-fill-2 c = let k = c .before .before .before in sym (ap length (lent k) ∙ size k)

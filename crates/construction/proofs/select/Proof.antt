@@ -59,8 +59,9 @@ collect-requires c κs =
 
 returns : tie.Need-returns
 returns c =
-    let k = c .before .before .before .before .before in
-    c .before .collect .ensures ∙ ap (λ (r : List ℕ). padded (marked r)) (lent k ∙ k .mark .ensures)
+    let m = c .before in
+    let k = m .before .before .before .before in
+    m .collect .ensures ∙ ap (λ (r : List ℕ). padded (marked r)) (lent k ∙ k .mark .ensures)
 
 pub select-spec : {M : Type 1} → statement M
 select-spec =

@@ -4,76 +4,61 @@ use native.Mathlib.Omega.{arith}
 use mathlib.Core.Path.{sym, _∙_}
 use borrow.Author.Needs.{needs}
 use Rattle.rows.proofs.Parts.{front-room}
-use Rattle.dci.proofs.Judging.{most, lent-size, back-size, part-size, matches-asks, payload-fits, payload-size, gives}
+use Rattle.dci.proofs.Judging.{Asked, Back, most, lent-size, back-size, part-size, matches-asks, payload-fits, payload-size, gives}
 use Rattle.dci.proofs.accept.Statement.{statement}
 use Rattle.dci.proofs.accept.Tie as tie
+
+abbrev asked : (s : tie.Start) → Asked (s .args .numbers) (s .args .out .now)
+asked s = record { ok = s .pre .0; size = s .pre .2 }
+
+-- the row that `read` gives back
+abbrev start : tie.After-read → tie.Start
+start c = c .before .before .before
+
+abbrev back : (c : tie.After-read) → let a = start c .args in Back (a .numbers) (a .soft .now) (a .out .now)
+back c = record { asked = asked (start c); row = c .read .last .1 .1 .0; kept = c .read .kept .1 .1 .0; is = c .read .ensures }
+
+-- and what the parity says of it
+abbrev read-behind : tie.After-matches → tie.After-read
+read-behind c = c .before .before .before
 
 returns : tie.Need-returns
 returns c =
     let v = c .before .before in
     let m = v .before .before .before in
-    let r = m .before .before .before in
-    let s = r .before .before .before in
-    let a = s .args in
-    gives (a .numbers) (s .pre .0) (a .soft .now) (a .out .now) (s .pre .2) (r .read .last .1 .1 .0) (r .read .kept .1 .1 .0) (r .read .ensures)
-    (m .matches .result) (m .matches .ensures) (v .give .result) (v .give .last .1 .1 .0) (v .give .ensures)
-
-matches-requires : tie.Need-matches-requires
-matches-requires c κs =
-    let r = c .before .before in
-    let s = r .before .before .before in
-    let a = s .args in
-    matches-asks (a .numbers) (s .pre .0) (a .soft .now) (a .out .now) (s .pre .2) (r .read .last .1 .1 .0) (r .read .kept .1 .1 .0) (r .read .ensures)
+    gives (back (read-behind m)) (m .matches .result) (m .matches .ensures) (v .give .result) (v .give .last .1 .1 .0) (v .give .ensures)
 
 add-k : tie.Need-add-k
 add-k c = search needs
 
 array-borrow-prefix-row : tie.Need-array-borrow-prefix-row
-array-borrow-prefix-row c = let s = c .before in most (s .args .numbers) (s .pre .0) (s .args .soft .now) (s .args .out .now) (s .pre .2)
+array-borrow-prefix-row c = most (asked (c .before))
 
 slice-aggregate-read : tie.Need-slice-aggregate-read
-slice-aggregate-read c = let s = c .before .before in sym (lent-size (s .args .numbers) (s .pre .0) (s .args .soft .now) (s .args .out .now) (s .pre .2))
+slice-aggregate-read c = sym (lent-size (asked (c .before .before)))
 
 read-requires : tie.Need-read-requires
 read-requires c κs =
     let s = c .before .before in
-    (s .pre .0, s .pre .1, lent-size (s .args .numbers) (s .pre .0) (s .args .soft .now) (s .args .out .now) (s .pre .2) ∙ omega (arith, s .pre .2), s .pre .3)
+    (s .pre .0, s .pre .1, lent-size (asked s) ∙ omega (arith, s .pre .2), s .pre .3)
 
 array-share-prefix-row : tie.Need-array-share-prefix-row
-array-share-prefix-row c =
-    let r = c .before in
-    let s = r .before .before .before in
-    let a = s .args in
-    front-room (r .read .last .1 .1 .0) _ _
-    (back-size (a .numbers) (s .pre .0) (a .soft .now) (a .out .now) (s .pre .2) (r .read .last .1 .1 .0) (r .read .kept .1 .1 .0) (r .read .ensures))
+array-share-prefix-row c = front-room (c .before .read .last .1 .1 .0) _ _ (back-size (back (c .before)))
 
 slice-aggregate-matches : tie.Need-slice-aggregate-matches
-slice-aggregate-matches c =
-    let r = c .before .before in
-    let s = r .before .before .before in
-    let a = s .args in
-    sym (part-size (a .numbers) (s .pre .0) (a .soft .now) (a .out .now) (s .pre .2) (r .read .last .1 .1 .0) (r .read .kept .1 .1 .0) (r .read .ensures))
+slice-aggregate-matches c = sym (part-size (back (c .before .before)))
+
+matches-requires : tie.Need-matches-requires
+matches-requires c κs = matches-asks (back (c .before .before))
 
 array-share-prefix-row-2 : tie.Need-array-share-prefix-row-2
-array-share-prefix-row-2 c =
-    let r = c .before .before .before in
-    let s = r .before .before .before in
-    let a = s .args in
-    payload-fits (a .numbers) (s .pre .0) (a .soft .now) (a .out .now) (s .pre .2) (r .read .last .1 .1 .0) (r .read .kept .1 .1 .0) (r .read .ensures)
+array-share-prefix-row-2 c = payload-fits (back (read-behind c))
 
 slice-aggregate-give : tie.Need-slice-aggregate-give
-slice-aggregate-give c =
-    let r = c .before .before .before .before in
-    let s = r .before .before .before in
-    let a = s .args in
-    sym (payload-size (a .numbers) (s .pre .0) (a .soft .now) (a .out .now) (s .pre .2) (r .read .last .1 .1 .0) (r .read .kept .1 .1 .0) (r .read .ensures))
+slice-aggregate-give c = sym (payload-size (back (read-behind (c .before))))
 
 give-requires : tie.Need-give-requires
-give-requires c κs =
-    let r = c .before .before .before .before .before in
-    let s = r .before .before .before in
-    let a = s .args in
-    sym (payload-size (a .numbers) (s .pre .0) (a .soft .now) (a .out .now) (s .pre .2) (r .read .last .1 .1 .0) (r .read .kept .1 .1 .0) (r .read .ensures))
+give-requires c κs = sym (payload-size (back (read-behind (c .before .before))))
 
 same-length : tie.Need-same-length
 same-length c = search needs

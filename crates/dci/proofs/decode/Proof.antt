@@ -12,12 +12,18 @@ use Rattle.dci.proofs.Outcomes.{refused, decoding-sizes, decoding-entry
 use Rattle.dci.proofs.decode.Statement.{statement}
 use Rattle.dci.proofs.decode.Tie as tie
 
+abbrev start : tie.After-check-sizes → tie.Start
+start c = c .before .before
+
+abbrev sizes-behind : tie.After-first-outside → tie.After-check-sizes
+sizes-behind c = c .before .before .before
+
 -- the place that was looked for is that of the first bad value
-place-is : (c : tie.After-first-outside) → c .first-outside .result ≡ first badSoft (c .before .before .before .before .before .args .soft .now)
-place-is c = c .first-outside .ensures ∙ first-soft (c .before .before .before .before .before .args .soft .now)
+place-is : (c : tie.After-first-outside) → c .first-outside .result ≡ first badSoft (start (sizes-behind c) .args .soft .now)
+place-is c = c .first-outside .ensures ∙ first-soft (start (sizes-behind c) .args .soft .now)
 
 -- no value is bad
-clean : (c : tie.Else1) → let a = c .before .before .before .before .before .before .args in length (a .soft .now) ≤ first badSoft (a .soft .now)
+clean : (c : tie.Else1) → let a = start (sizes-behind (c .before)) .args in length (a .soft .now) ≤ first badSoft (a .soft .now)
 clean c = omega (arith, place-is (c .before))
 
 returns : tie.Need-returns

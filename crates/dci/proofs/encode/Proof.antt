@@ -10,8 +10,14 @@ use borrow.Author.Needs.{needs}
 use Rattle.dci.proofs.encode.Statement.{statement}
 use Rattle.dci.proofs.encode.Tie as tie
 
+abbrev start : tie.After-check-sizes → tie.Start
+start c = c .before .before .before
+
+abbrev sizes-behind : tie.After-first-bad → tie.After-check-sizes
+sizes-behind c = c .before .before .before
+
 -- no entry of the payload is bad
-clean : (c : tie.Else1) → let a = c .before .before .before .before .before .before .before .args in length (a .payload .now) ≤ first badByte (a .payload .now)
+clean : (c : tie.Else1) → let a = start (sizes-behind (c .before)) .args in length (a .payload .now) ≤ first badByte (a .payload .now)
 clean c = omega (arith, c .before .first-bad .ensures)
 
 check-sizes-requires : tie.Need-check-sizes-requires

@@ -5,11 +5,9 @@ use native.Mathlib.Omega.{arith}
 use mathlib.Core.Path.{_≡_, sym, subst, ap₂, _∙_}
 use lib.ListN.{length, take}
 use borrow.Author.Needs.{needs}
-use Rattle.nr.specs.Rows.{entries}
 use Rattle.nr.specs.Numbers.{K}
-use Rattle.nr.specs.Interleaver.{deinterleave}
 use Rattle.nr.specs.Construction.{Layout, layout}
-use Rattle.nr.specs.Decoding.{decided}
+use Rattle.nr.specs.Decoding.{maskedRow}
 use Rattle.nr.proofs.Construction.{accepted}
 use Rattle.nr.proofs.Refusals.{longest}
 use Rattle.polar.specs.Codes.{code}
@@ -17,17 +15,21 @@ use Rattle.dci.proofs.Made.{code-is, enough, exact, low, high, fits, la
 use Rattle.dci.proofs.read.Statement.{statement}
 use Rattle.dci.proofs.read.Tie as tie
 
+-- the layout, behind the arguments of `receive`
+abbrev laid-out : tie.After-receive-arg → tie.After-construct
+laid-out c = c .before .before .before .before
+
 returns : tie.Need-returns
 returns c =
     let v = c .before .before in
-    let k = v .before .before .before .before .before in
+    let k = laid-out (v .before) in
     let s = k .before .before in
     let n = s .args .numbers in
     let l = k .construct .result in
     let same : code (l .n) (l .kind) (take (length (s .args .row .now)) (l .positions)) ≡ layout (K (n .a)) (n .e) =
     rw (s .pre .2) (code-is (n .a) (n .e) (s .pre .0) l (k .construct .ensures)) in
     v .receive .ensures
-    ∙ ap₂ (λ (l : Layout) (e : ℕ). deinterleave (entries (l .positions) (decided l e (n .«n_id») (s .args .soft .now)))) same (s .pre .1)
+    ∙ ap₂ (λ (l : Layout) (e : ℕ). maskedRow l e (n .«n_id») (s .args .soft .now)) same (s .pre .1)
 
 construct-requires : tie.Need-construct-requires
 construct-requires c κs = search needs
@@ -51,7 +53,7 @@ slice-aggregate-receive c =
 
 receive-requires : tie.Need-receive-requires
 receive-requires c κs =
-    let k = c .before .before .before .before in
+    let k = laid-out c in
     let s = k .before .before in
     let n = s .args .numbers in
     let l = k .construct .result in

@@ -17,10 +17,14 @@ use Rattle.dci.proofs.write.Tie as tie
 size : (c : tie.Start) → length (c .args .payload .now) + 24 ≡ K (c .args .numbers .a)
 size c = ap (λ (m : ℕ). m + 24) (c .pre .1)
 
+-- the layout, behind the arguments of `send`
+abbrev laid-out : tie.After-send-arg → tie.After-construct
+laid-out c = c .before .before .before .before
+
 returns : tie.Need-returns
 returns c =
     let v = c .before .before in
-    let k = v .before .before .before .before .before in
+    let k = laid-out (v .before) in
     let s = k .before .before .before in
     let n = s .args .numbers in
     let l = k .construct .result in
@@ -54,7 +58,7 @@ slice-aggregate-send c =
 
 send-requires : tie.Need-send-requires
 send-requires c κs =
-    let k = c .before .before .before .before in
+    let k = laid-out c in
     let s = k .before .before .before in
     let n = s .args .numbers in
     let l = k .construct .result in

@@ -47,14 +47,14 @@ same-length c = search needs
 returns : tie.Need-returns
 unfolding attach
 returns c =
-    let w = c .before .before .write-bits in
-    let p = c .before .before .before .before .parity in
-    let f = c .before .before .before .before .before .before .before .copy in
-    let s = c .before .before .before .before .before .before .before .before .before .before .before in
+    let w = c .before .before in
+    let p = w .before .before in
+    let f = p .before .before .before in
+    let s = f .before .before .before .before in
     let payload = s .args .payload .now in
-    two-parts (f .last .1 .0) _ (w .last .1 .0) (length payload) (ap length (f .ensures))
-    ∙ ap₂ (λ (x y : List ℕ). x ++ y) (f .ensures) (w .ensures)
-    ∙ masked payload (parity payload) (p .result) (s .args .rnti) (s .pre .1) (p .ensures) (s .fits .rnti .fits)
+    two-parts (f .copy .last .1 .0) _ (w .write-bits .last .1 .0) (length payload) (ap length (f .copy .ensures))
+    ∙ ap₂ (λ (x y : List ℕ). x ++ y) (f .copy .ensures) (w .write-bits .ensures)
+    ∙ masked payload (parity payload) (p .parity .result) (s .args .rnti) (s .pre .1) (p .parity .ensures) (s .fits .rnti .fits)
 
 pub attach-spec : {M : Type 1} → statement M
 attach-spec =

@@ -15,12 +15,12 @@ use Rattle.parity.proofs.matches.Tie as tie
 
 returns : tie.Need-returns
 returns c =
-    let w = c .before .before .read-bits in
-    let s = c .before .before .before .before .before in
+    let w = c .before .before in
+    let s = w .before .before .before in
     let row = s .args .row .now in
     let A = length row - 24 in
-    matched A row (c .parity .result) (w .result) (s .args .rnti) (omega arith) (s .pre .1) (c .parity .ensures)
-    (subst (λ (r : List ℕ). Holds r (w .result)) (rest A row) (w .ensures)) (s .fits .rnti .fits)
+    matched A row (c .parity .result) (w .read-bits .result) (s .args .rnti) (omega arith) (s .pre .1) (c .parity .ensures)
+    (subst (λ (r : List ℕ). Holds r (w .read-bits .result)) (rest A row) (w .read-bits .ensures)) (s .fits .rnti .fits)
 
 sub-a : tie.Need-sub-a
 sub-a c = search needs

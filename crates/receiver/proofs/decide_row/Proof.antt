@@ -31,25 +31,33 @@ mark-requires c κs =
       take-replicate (N s) 512 0 (room s) ∙ ap (λ (m : ℕ). replicate m 0) (sym (size s)),
     )
 
-back-size : (c : tie.After-mark) → length (c .mark .last .1 .0) ≡ N (c .before .before .before .before)
-back-size c = c .mark .kept .1 .0 ∙ size (c .before .before .before .before)
+abbrev start : tie.After-mark → tie.Start
+start c = c .before .before .before .before
 
-lent : (c : tie.After-mark) → let s = c .before .before .before .before in
-    take (N s) (c .mark .last .1 .0 ++ drop (N s) (replicate 512 0)) ≡ marks (2 ^ s .args .n) (s .args .positions .now)
+abbrev marked : tie.After-mark → List ℕ
+marked c = c .mark .last .1 .0
+
+back-size : (c : tie.After-mark) → length (marked c) ≡ N (start c)
+back-size c = c .mark .kept .1 .0 ∙ size (start c)
+
+lent : (c : tie.After-mark) → let s = start c in
+    take (N s) (marked c ++ drop (N s) (replicate 512 0)) ≡ marks (2 ^ s .args .n) (s .args .positions .now)
 lent c =
-    let s = c .before .before .before .before in
-    front-back (c .mark .last .1 .0) _ (N s) (back-size c) ∙ c .mark .ensures
+    let s = start c in
+    front-back (marked c) _ (N s) (back-size c) ∙ c .mark .ensures
     ∙ ap (λ (m : ℕ). marks m (s .args .positions .now)) (size s ∙ s .pre .0 .2)
 
-lent-size : (c : tie.After-mark) → let n = N (c .before .before .before .before) in
-    length (take n (c .mark .last .1 .0 ++ drop n (replicate 512 0))) ≡ n
-lent-size c = ap length (front-back (c .mark .last .1 .0) _ (N (c .before .before .before .before)) (back-size c)) ∙ back-size c
+lent-size : (c : tie.After-mark) → length (take (N (start c)) (marked c ++ drop (N (start c)) (replicate 512 0))) ≡ N (start c)
+lent-size c = ap length (front-back (marked c) _ (N (start c)) (back-size c)) ∙ back-size c
+
+abbrev mark-behind : tie.After-decode-row-arg2 → tie.After-mark
+mark-behind c = c .before .before .before .before
 
 returns : tie.Need-returns
 returns c =
     let d = c .before .before in
-    let m = d .before .before .before .before .before in
-    let a = m .before .before .before .before .args in
+    let m = mark-behind (d .before) in
+    let a = start m .args in
     d .decode-row .ensures ∙ ap (λ (r : List ℕ). successive (a .n) r (rowOf (2 ^ a .n) (a .work .now))) (lent m)
 
 array-borrow-prefix-chosen : tie.Need-array-borrow-prefix-chosen
@@ -59,15 +67,15 @@ slice-aggregate-mark : tie.Need-slice-aggregate-mark
 slice-aggregate-mark c = sym (size (c .before .before .before))
 
 array-share-prefix-chosen : tie.Need-array-share-prefix-chosen
-array-share-prefix-chosen c = front-room (c .before .before .mark .last .1 .0) _ _ (back-size (c .before .before))
+array-share-prefix-chosen c = front-room (marked (c .before .before)) _ _ (back-size (c .before .before))
 
 slice-aggregate-decode-row : tie.Need-slice-aggregate-decode-row
 slice-aggregate-decode-row c = sym (lent-size (c .before .before .before))
 
 decode-row-requires : tie.Need-decode-row-requires
 decode-row-requires c κs =
-    let m = c .before .before .before .before in
-    let s = m .before .before .before .before in
+    let m = mark-behind c in
+    let s = start m in
     ((s .pre .0 .0, s .pre .1 .0, lent-size m ∙ s .pre .0 .2, s .pre .0 .2), s .pre .1 .1)
 
 same-length : tie.Need-same-length

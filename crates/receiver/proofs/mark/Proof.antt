@@ -11,10 +11,13 @@ use Rattle.receiver.proofs.Marking.{ones-placed}
 use Rattle.receiver.proofs.mark.Statement.{statement}
 use Rattle.receiver.proofs.mark.Tie as tie
 
+abbrev start : tie.After-place-arg → tie.Start
+start c = c .before .before .before .before
+
 returns : tie.Need-returns
 returns c =
     let p = c .before .before in
-    let s = p .before .before .before .before .before in
+    let s = start (p .before) in
     let a = s .args in
     p .place .ensures
     ∙ ap (λ (r : List ℕ). placed (length (a .row .now)) (a .positions .now) r) (take-replicate (length (a .positions .now)) 164 1 (s .pre .0 .few))
@@ -30,7 +33,7 @@ slice-aggregate-place c =
 
 place-requires : tie.Need-place-requires
 place-requires c κs =
-    let s = c .before .before .before .before in
+    let s = start c in
     ((front-size (length (s .args .positions .now)) 164 1 (s .pre .0 .few), s .pre .0), s .pre .1)
 
 same-length : tie.Need-same-length

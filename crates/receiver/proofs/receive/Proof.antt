@@ -4,7 +4,7 @@ use Prim.Native.Nat.{ℕ, _*_, _%_, _^_, _≤_}
 use native.Mathlib.Omega.{arith}
 use borrow.Author.Needs.{needs}
 use mathlib.Core.Path.{_≡_, sym, subst, ap, _∙_}
-use mathlib.Core.List.{_++_}
+use mathlib.Core.List.{List, _++_}
 use lib.ListN.{length, take, drop, replicate}
 use lib.Pow.{pow-mono}
 use Rattle.nr.specs.Rows.{entries}
@@ -26,15 +26,20 @@ room : (s : tie.Start) → N s ≤ 512
 room s = subst (λ (m : ℕ). m ≤ 512) (sym (power s)) (pow-mono {i = s .args .n} {j = 9} (s .pre .0 .1))
 
 -- the decided bits, in the part that was lent for them
+abbrev start : tie.After-decide → tie.Start
+start c = c .before .before .before .before
+
+abbrev est : tie.After-decide → List ℕ
+est c = c .decide .last .1 .1 .1 .1 .1 .0
+
 est-size : (s : tie.Start) → length {A = ℕ} (take (N s) (replicate 512 0)) ≡ N s
 est-size s = front-size (N s) 512 0 (room s)
 
-est-back : (c : tie.After-decide) → length (c .decide .last .1 .1 .1 .1 .1 .0) ≡ N (c .before .before .before .before)
-est-back c = c .decide .kept .1 .1 .1 .1 .1 .0 ∙ est-size (c .before .before .before .before)
+est-back : (c : tie.After-decide) → length (est c) ≡ N (start c)
+est-back c = c .decide .kept .1 .1 .1 .1 .1 .0 ∙ est-size (start c)
 
-est-lent : (c : tie.After-decide) → let s = c .before .before .before .before in
-    take (N s) (c .decide .last .1 .1 .1 .1 .1 .0 ++ drop (N s) (replicate 512 0)) ≡ c .decide .last .1 .1 .1 .1 .1 .0
-est-lent c = front-back (c .decide .last .1 .1 .1 .1 .1 .0) _ (N (c .before .before .before .before)) (est-back c)
+est-lent : (c : tie.After-decide) → take (N (start c)) (est c ++ drop (N (start c)) (replicate 512 0)) ≡ est c
+est-lent c = front-back (est c) _ (N (start c)) (est-back c)
 
 -- those at the information positions, in the part that was lent for them
 abbrev K : tie.Start → ℕ
@@ -43,24 +48,31 @@ K s = length (s .args .positions .now)
 few : (s : tie.Start) → K s ≤ 164
 few s = s .pre .1 .1 .few
 
+abbrev decide-behind : tie.After-pick → tie.After-decide
+decide-behind c = c .before .before .before .before
+
+abbrev K-of : tie.After-pick → ℕ
+K-of c = K (start (decide-behind c))
+
+abbrev bits : tie.After-pick → List ℕ
+bits c = c .pick .last .1 .1 .0
+
 bits-size : (s : tie.Start) → length {A = ℕ} (take (K s) (replicate 164 0)) ≡ K s
 bits-size s = front-size (K s) 164 0 (few s)
 
-bits-back : (c : tie.After-pick) → length (c .pick .last .1 .1 .0) ≡ K (c .before .before .before .before .before .before .before .before)
-bits-back c = c .pick .kept .1 .1 .0 ∙ bits-size (c .before .before .before .before .before .before .before .before)
+bits-back : (c : tie.After-pick) → length (bits c) ≡ K-of c
+bits-back c = c .pick .kept .1 .1 .0 ∙ bits-size (start (decide-behind c))
 
-bits-lent : (c : tie.After-pick) → let s = c .before .before .before .before .before .before .before .before in
-    take (K s) (c .pick .last .1 .1 .0 ++ drop (K s) (replicate 164 0)) ≡ c .pick .last .1 .1 .0
-bits-lent c = front-back (c .pick .last .1 .1 .0) _ (K (c .before .before .before .before .before .before .before .before)) (bits-back c)
+bits-lent : (c : tie.After-pick) → take (K-of c) (bits c ++ drop (K-of c) (replicate 164 0)) ≡ bits c
+bits-lent c = front-back (bits c) _ (K-of c) (bits-back c)
 
 returns : tie.Need-returns
 returns c =
     let i = c .before .before in
     let p = i .before .before .before .before in
-    let d = p .before .before .before .before in
-    let a = d .before .before .before .before .args in
+    let d = decide-behind p in
     i .deinterleave .ensures
-    ∙ ap deinterleave (bits-lent p ∙ p .pick .ensures ∙ ap (entries (a .positions .now)) (est-lent d ∙ d .decide .ensures))
+    ∙ ap deinterleave (bits-lent p ∙ p .pick .ensures ∙ ap (entries (start d .args .positions .now)) (est-lent d ∙ d .decide .ensures))
 
 shl-len : tie.Need-shl-len
 shl-len c = search needs
@@ -77,7 +89,7 @@ decide-requires c κs =
     (s .pre .0, (s .pre .1 .0, s .pre .1 .1, est-size s ∙ power s))
 
 array-share-prefix-est : tie.Need-array-share-prefix-est
-array-share-prefix-est c = front-room (c .before .decide .last .1 .1 .1 .1 .1 .0) _ _ (est-back (c .before))
+array-share-prefix-est c = front-room (est (c .before)) _ _ (est-back (c .before))
 
 slice-aggregate-pick : tie.Need-slice-aggregate-pick
 slice-aggregate-pick c = sym (ap length (est-lent (c .before .before)) ∙ est-back (c .before .before))
@@ -86,16 +98,16 @@ array-borrow-prefix-bits : tie.Need-array-borrow-prefix-bits
 array-borrow-prefix-bits c = search needs
 
 slice-aggregate-pick-2 : tie.Need-slice-aggregate-pick-2
-slice-aggregate-pick-2 c = sym (bits-size (c .before .before .before .before .before .before .before))
+slice-aggregate-pick-2 c = sym (bits-size (start (c .before .before .before)))
 
 pick-requires : tie.Need-pick-requires
 pick-requires c κs =
     let d = c .before .before .before in
-    let s = d .before .before .before .before in
+    let s = start d in
     (subst (λ (m : ℕ). Positions m (s .args .positions .now)) (sym (ap length (est-lent d) ∙ est-back d ∙ power s)) (s .pre .1 .1), bits-size s)
 
 array-share-prefix-bits : tie.Need-array-share-prefix-bits
-array-share-prefix-bits c = front-room (c .before .pick .last .1 .1 .0) _ _ (bits-back (c .before))
+array-share-prefix-bits c = front-room (bits (c .before)) _ _ (bits-back (c .before))
 
 slice-aggregate-deinterleave : tie.Need-slice-aggregate-deinterleave
 slice-aggregate-deinterleave c = sym (ap length (bits-lent (c .before .before)) ∙ bits-back (c .before .before))
@@ -103,7 +115,7 @@ slice-aggregate-deinterleave c = sym (ap length (bits-lent (c .before .before)) 
 deinterleave-requires : tie.Need-deinterleave-requires
 deinterleave-requires c κs =
     let p = c .before .before .before in
-    let s = p .before .before .before .before .before .before .before .before in
+    let s = start (decide-behind p) in
     let size = ap length (bits-lent p) ∙ bits-back p in
     (subst (λ (m : ℕ). m ≤ 164) (sym size) (few s), s .pre .1 .2 ∙ sym size)
 

@@ -29,8 +29,9 @@ loop-holds c =
 loop-again : tie.Need-loop-again Inv-loop μ-loop
 loop-again c =
     let d = c .before .before .before .before in
-    let t = d .before .before .before .loop in
-    let a = d .before .before .before .before .before .args in
+    let p = d .before .before .before in
+    let t = p .loop in
+    let a = p .before .before .args in
     let more = part-added (a .row .now) (a .r .x1) (a .r .x2) (t .at) (t .at + 16 - t .at) (t .at + 16) (t .row)
     (omega arith) (omega arith) (t .inv .2) (d .add-terms .last .0) (t .inv .3) (t .inv .4) (d .add-terms .ensures) in (
       omega arith,
@@ -98,8 +99,9 @@ same-length c =
 returns : tie.Need-returns Inv-loop μ-loop
 returns c =
     let d = c .before .before in
-    let t = d .before .before .before .loop in
-    let a = d .before .before .before .before .before .args in
+    let p = d .before .before .before in
+    let t = p .loop in
+    let a = p .before .before .args in
     part-added (a .row .now) (a .r .x1) (a .r .x2) (t .at) (length (t .row) - t .at) (length (a .row .now)) (t .row)
     (omega arith) (omega arith) (t .inv .2) (d .add-terms2 .last .0) (t .inv .3) (t .inv .4) (d .add-terms2 .ensures)
     ∙ added-all (a .row .now) (a .r .x1) (a .r .x2)

@@ -15,9 +15,11 @@ array-borrow-prefix-bits c = search needs
 
 returns : tie.Need-returns
 returns c =
-    let s = c .before .before .before .before .before .before .before in
-    c .before .negate .ensures
-    ∙ ap (λ (bits : List ℕ). descramble bits (s .args .soft .now)) (front 1728 _ (s .pre .2) (s .args .seed) (c .before .before .before .before .before .scramble .ensures) _)
+    let n = c .before in
+    let b = n .before .before .before .before in
+    let s = b .before .before in
+    n .negate .ensures
+    ∙ ap (λ (bits : List ℕ). descramble bits (s .args .soft .now)) (front 1728 _ (s .pre .2) (s .args .seed) (b .scramble .ensures) _)
 
 slice-aggregate-scramble : tie.Need-slice-aggregate-scramble
 slice-aggregate-scramble c = sym (front-size _ 1728 0 (c .before .pre .2))
@@ -27,18 +29,21 @@ scramble-requires c κs = (c .before .pre .0, zeros 1728 _ (c .before .pre .2))
 
 array-share-prefix-bits : tie.Need-array-share-prefix-bits
 array-share-prefix-bits c =
-    let s = c .before .before .before in
-    front-le 1728 _ (s .pre .2) (s .args .seed) (c .before .scramble .ensures) _
+    let b = c .before in
+    let s = b .before .before in
+    front-le 1728 _ (s .pre .2) (s .args .seed) (b .scramble .ensures) _
 
 slice-aggregate-negate : tie.Need-slice-aggregate-negate
 slice-aggregate-negate c =
-    let s = c .before .before .before .before in
-    sym (front-length 1728 _ (s .pre .2) (s .args .seed) (c .before .before .scramble .ensures) _)
+    let b = c .before .before in
+    let s = b .before .before in
+    sym (front-length 1728 _ (s .pre .2) (s .args .seed) (b .scramble .ensures) _)
 
 negate-requires : tie.Need-negate-requires
 negate-requires c κs =
-    let s = c .before .before .before .before .before in
-    (front-length 1728 _ (s .pre .2) (s .args .seed) (c .before .before .before .scramble .ensures) _, s .pre .1, s .pre .3)
+    let b = c .before .before .before in
+    let s = b .before .before in
+    (front-length 1728 _ (s .pre .2) (s .args .seed) (b .scramble .ensures) _, s .pre .1, s .pre .3)
 
 same-length : tie.Need-same-length
 same-length c = search needs

@@ -20,8 +20,9 @@ abbrev μ-loop : tie.MeasureT-loop
 
 loop-again : tie.Need-loop-again Inv-loop μ-loop
 loop-again c =
-    let l = c .before .before .before .before .loop in
-    let s = c .before .before .before .before .before .before in
+    let t = c .before .before .before .before in
+    let l = t .loop in
+    let s = t .before .before in
     let bits = s .args .bits .now in
     let soft = s .args .soft .now in
     filling-more (l .inv) _ (pos 0) (omega (arith, length-descramble bits soft (s .pre .0)))
@@ -43,8 +44,9 @@ shared-slice-read-negate-if c = omega arith
 
 negate-if-requires : tie.Need-negate-if-requires Inv-loop μ-loop
 negate-if-requires c κs =
-    let s = c .before .before .before .before .before in
-    negate-asks (s .args .bits .now) (s .args .soft .now) (s .pre .0) (s .pre .2) (c .before .before .before .loop .k)
+    let t = c .before .before .before in
+    let s = t .before .before in
+    negate-asks (s .args .bits .now) (s .args .soft .now) (s .pre .0) (s .pre .2) (t .loop .k)
 
 mul-r : tie.Need-mul-r Inv-loop μ-loop
 mul-r c = omega arith

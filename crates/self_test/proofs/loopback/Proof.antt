@@ -14,16 +14,29 @@ use Rattle.self_test.proofs.Looping.{first-refused, second-refused, byt
 use Rattle.self_test.proofs.loopback.Statement.{statement}
 use Rattle.self_test.proofs.loopback.Tie as tie
 
+-- the way back from each check to the one before it
+abbrev start : tie.After-check-sizes → tie.Start
+start c = c .before .before .before
+
+abbrev first-sizes : tie.After-check-sizes2 → tie.After-check-sizes
+first-sizes c = c .before .before .before
+
+abbrev second-sizes : tie.After-first-bad → tie.After-check-sizes2
+second-sizes c = c .before .before .before
+
+abbrev of-bytes : tie.After-first-bad → tie.Start
+of-bytes c = start (first-sizes (second-sizes c))
+
 -- no byte of the payload is bad
-bytes : (c : tie.Else1) → let a = c .before .before .before .before .before .before .before .before .before .before .args in
+bytes : (c : tie.Else1) → let a = of-bytes (c .before) .args in
     length (a .payload .now) ≤ first badByte (a .payload .now)
 bytes c = omega (arith, c .before .first-bad .ensures)
 
 -- the place that was looked for is that of the first bad strength; none is bad
-strength-is : (c : tie.After-first-outside) → c .first-outside .result ≡ first badStrength (c .before .before .before .before .before .before .before .before .before .before .before .args .strengths .now)
-strength-is c = c .first-outside .ensures ∙ first-strength (c .before .before .before .before .before .before .before .before .before .before .before .args .strengths .now)
+strength-is : (c : tie.After-first-outside) → c .first-outside .result ≡ first badStrength (of-bytes (c .before .before) .args .strengths .now)
+strength-is c = c .first-outside .ensures ∙ first-strength (of-bytes (c .before .before) .args .strengths .now)
 
-strong : (c : tie.Else2) → let a = c .before .before .before .before .before .before .before .before .before .before .before .before .args in
+strong : (c : tie.Else2) → let a = of-bytes (c .before .before .before) .args in
     length (a .strengths .now) ≤ first badStrength (a .strengths .now)
 strong c = omega (arith, strength-is (c .before))
 

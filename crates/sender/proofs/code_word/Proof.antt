@@ -22,12 +22,21 @@ use Rattle.sender.proofs.code_word.Tie as tie
 size : (c : tie.Start) → length {A = ℕ} (take (length (c .args .positions .now)) (replicate 164 0)) ≡ length (c .args .positions .now)
 size c = front-size (length (c .args .positions .now)) 164 0 (c .pre .0 .1 .few)
 
-interleaved : (c : tie.After-information-bits) → length (c .information-bits .last .1 .1 .0) ≡ length (c .before .before .before .before .before .args .positions .now)
-interleaved c = c .information-bits .kept .1 .1 .0 ∙ size (c .before .before .before .before .before)
+abbrev start : tie.After-bits → tie.Start
+start c = c .before .before .before .before
 
-lent : (c : tie.After-information-bits) → let k = length (c .before .before .before .before .before .args .positions .now) in
-    take k (c .information-bits .last .1 .1 .0 ++ drop k (replicate 164 0)) ≡ c .information-bits .last .1 .1 .0
-lent c = front-back (c .information-bits .last .1 .1 .0) _ (length (c .before .before .before .before .before .args .positions .now)) (interleaved c)
+-- K, and the interleaved bits
+abbrev K-of : tie.After-information-bits → ℕ
+K-of c = length (start (c .before) .args .positions .now)
+
+abbrev bits : tie.After-information-bits → List ℕ
+bits c = c .information-bits .last .1 .1 .0
+
+interleaved : (c : tie.After-information-bits) → length (bits c) ≡ K-of c
+interleaved c = c .information-bits .kept .1 .1 .0 ∙ size (start (c .before))
+
+lent : (c : tie.After-information-bits) → take (K-of c) (bits c ++ drop (K-of c) (replicate 164 0)) ≡ bits c
+lent c = front-back (bits c) _ (K-of c) (interleaved c)
 
 -- the row d is N long
 code-length : (c : tie.Start) → length (c .args .d .now) ≡ 2 ^ c .args .n
@@ -37,27 +46,30 @@ code-length c = ap length (c .pre .1) ∙ length-replicate (2 ^ c .args .n) 0
 u : (c : tie.Start) → List ℕ
 u c = placed (2 ^ c .args .n) (c .args .positions .now) (interleave (maskRnti (c .args .rnti) (attach (c .args .payload .now))))
 
-placed-is : (c : tie.After-place) → c .place .last .1 .1 .0 ≡ u (c .before .before .before .before .before .before .before .before .before)
+abbrev bits-behind : tie.After-place → tie.After-information-bits
+bits-behind c = c .before .before .before .before
+
+placed-is : (c : tie.After-place) → c .place .last .1 .1 .0 ≡ u (start (bits-behind c .before))
 unfolding u
 placed-is c =
-    let k = c .before .before .before .before in
-    let s = k .before .before .before .before .before in
+    let k = bits-behind c in
+    let s = start (k .before) in
     c .place .ensures
-    ∙ ap₂ (λ (m : ℕ) (bits : List ℕ). placed m (s .args .positions .now) bits) (code-length s) (lent k ∙ k .information-bits .ensures)
+    ∙ ap₂ (λ (m : ℕ) (c : List ℕ). placed m (s .args .positions .now) c) (code-length s) (lent k ∙ k .information-bits .ensures)
 
 array-borrow-prefix-bits : tie.Need-array-borrow-prefix-bits
 array-borrow-prefix-bits c = search needs
 
 slice-aggregate-information-bits : tie.Need-slice-aggregate-information-bits
-slice-aggregate-information-bits c = sym (size (c .before .before .before .before))
+slice-aggregate-information-bits c = sym (size (start c))
 
 information-bits-requires : tie.Need-information-bits-requires
 information-bits-requires c κs =
-    let s = c .before .before .before .before in
+    let s = start c in
     (size s ∙ s .pre .0 .0, subst (λ (m : ℕ). m ≤ 164) (sym (size s)) (s .pre .0 .1 .few), s .pre .0 .2)
 
 array-share-prefix-bits : tie.Need-array-share-prefix-bits
-array-share-prefix-bits c = front-room (c .before .information-bits .last .1 .1 .0) _ _ (interleaved (c .before))
+array-share-prefix-bits c = front-room (bits (c .before)) _ _ (interleaved (c .before))
 
 slice-aggregate-place : tie.Need-slice-aggregate-place
 slice-aggregate-place c = sym (ap length (lent (c .before .before)) ∙ interleaved (c .before .before))
@@ -65,7 +77,7 @@ slice-aggregate-place c = sym (ap length (lent (c .before .before)) ∙ interlea
 place-requires : tie.Need-place-requires
 place-requires c κs =
     let k = c .before .before .before in
-    let s = k .before .before .before .before .before in (
+    let s = start (k .before) in (
       (ap length (lent k) ∙ interleaved k, subst (λ (m : ℕ). Positions m (s .args .positions .now)) (sym (code-length s)) (s .pre .0 .1)),
       s .pre .1 ∙ ap (λ (m : ℕ). replicate m 0) (sym (code-length s)),
     )
@@ -86,7 +98,7 @@ unfolding u
 returns c =
     let t = c .before .before in
     let p = t .before .before .before .before in
-    t .transform .ensures ∙ ap (transform (p .before .before .before .before .before .before .before .before .before .args .n)) (placed-is p)
+    t .transform .ensures ∙ ap (transform (start (bits-behind p .before) .args .n)) (placed-is p)
 
 pub code-word-spec : {M : Type 1} → statement M
 code-word-spec =

@@ -1,34 +1,39 @@
 -- `successive_decoder::decode_row` meets its contract.
 -- Assumes nothing.
 use borrow.Author.Needs.{needs}
-use mathlib.Core.Path.{sym}
-use lib.ListN.{length}
+use Prim.Native.Nat.{ℕ, _≤_}
+use mathlib.Core.Path.{_≡_, sym}
+use lib.ListN.{length, take, replicate}
 use Rattle.rows.proofs.Parts.{front-size}
 use Rattle.successive_decoder.proofs.Step.{marks-fit, top-ready}
 use Rattle.successive_decoder.proofs.decode_row.Statement.{statement}
 use Rattle.successive_decoder.proofs.decode_row.Tie as tie
 
+-- behind the arguments of `decode`
+abbrev start : tie.After-decode-arg2 → tie.Start
+start c = c .before .before .before .before
+
+fit : (s : tie.Start) → length (s .args .marks .now) ≤ 512
+fit s = marks-fit (s .args .n) (s .pre .0 .0) (s .args .marks .now) (s .pre .0 .2)
+
+-- the part of `sums` that is lent
+sums-size : (s : tie.Start) → length {A = ℕ} (take (length (s .args .marks .now)) (replicate 512 0)) ≡ length (s .args .marks .now)
+sums-size s = front-size (length (s .args .marks .now)) 512 0 (fit s)
+
 returns : tie.Need-returns
 returns c = search needs
 
 array-borrow-prefix-sums : tie.Need-array-borrow-prefix-sums
-array-borrow-prefix-sums c =
-    let s = c .before .before .before .before in
-    let a = s .args in
-    marks-fit (a .n) (s .pre .0 .0) (a .work .now) (a .marks .now) (a .est .now) (s .pre .0 .1) (s .pre .0 .2) (s .pre .0 .3) (s .pre .1)
+array-borrow-prefix-sums c = fit (start c)
 
 slice-aggregate-decode : tie.Need-slice-aggregate-decode
-slice-aggregate-decode c =
-    let s = c .before .before .before .before .before in
-    let a = s .args in
-    sym (front-size (length (a .marks .now)) 512 0 (marks-fit (a .n) (s .pre .0 .0) (a .work .now) (a .marks .now) (a .est .now) (s .pre .0 .1) (s .pre .0 .2) (s .pre .0 .3) (s .pre .1)))
+slice-aggregate-decode c = sym (sums-size (start (c .before)))
 
 decode-requires : tie.Need-decode-requires
 decode-requires c κs =
-    let s = c .before .before .before .before .before in
+    let s = start (c .before) in
     let a = s .args in
-    top-ready (a .n) (s .pre .0 .0) (a .work .now) (a .marks .now) (a .est .now) (s .pre .0 .1) (s .pre .0 .2) (s .pre .0 .3) (s .pre .1) _
-    (front-size (length (a .marks .now)) 512 0 (marks-fit (a .n) (s .pre .0 .0) (a .work .now) (a .marks .now) (a .est .now) (s .pre .0 .1) (s .pre .0 .2) (s .pre .0 .3) (s .pre .1)))
+    top-ready (a .n) (s .pre .0 .0) (a .marks .now) (s .pre .0 .2) (a .work .now) (a .est .now) _ (s .pre .0 .1) (s .pre .0 .3) (sums-size s) (s .pre .1)
 
 same-length : tie.Need-same-length
 same-length c = search needs
