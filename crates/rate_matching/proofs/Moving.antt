@@ -186,7 +186,6 @@ module _ {A : Type 0} (none : A) (w : Way) (n : ℕ) (low : 5 ≤ n) (high : n �
     pub moving-more : Moving none w n x (putMid at m row piece) (b + 1)
     moving-more = record {
       size = same-len-mid at m row piece (full ∙ sym (mid-len at (at + S n) row (omega (arith, room)))) ∙ f .size;
-     
       holds = λ p l q. go p l q (eqb (p / 2 ^ k) (w .to b)) refl;
     }
       where

@@ -53,7 +53,7 @@ const SUB_BLOCKS: [u8; 32] = [
 const CERTAIN: i32 = 1_048_576;
 
 // y_i = d at J(i) (5.4.1.1), by sub-blocks: J moves each as a whole.
-fn sub_blocks(blocks: &[u8], n: usize, d: &[u8], y: &mut [u8])
+fn copy_blocks(blocks: &[u8], n: usize, d: &[u8], y: &mut [u8])
     requires { ⌜ (now blocks ≡ P) × (5 ≤ n) × (n ≤ 9) × (length (now d) ≡ 2 ^ n) × (length (now y) ≡ 2 ^ n) ⌝ }
     ensures { λ _. ⌜ now (y .exit) ≡ subBlocks (2 ^ n) (now (d .entry)) ⌝ }
 {
@@ -66,6 +66,19 @@ fn sub_blocks(blocks: &[u8], n: usize, d: &[u8], y: &mut [u8])
         let to_end = to + size;
         rows::copy(&d[from..from_end], &mut y[to..to_end]);
         b += 1;
+    }
+}
+
+// The same. With n as a number the loop is compiled into one or two moves for each sub-block, and not into a call for each.
+fn sub_blocks(blocks: &[u8], n: usize, d: &[u8], y: &mut [u8])
+    requires { ⌜ (now blocks ≡ P) × (5 ≤ n) × (n ≤ 9) × (length (now d) ≡ 2 ^ n) × (length (now y) ≡ 2 ^ n) ⌝ }
+    ensures { λ _. ⌜ now (y .exit) ≡ subBlocks (2 ^ n) (now (d .entry)) ⌝ }
+{
+    match n {
+        7 => copy_blocks(blocks, 7, d, y),
+        8 => copy_blocks(blocks, 8, d, y),
+        9 => copy_blocks(blocks, 9, d, y),
+        _ => copy_blocks(blocks, n, d, y),
     }
 }
 

@@ -1,134 +1,82 @@
 -- `rate_matching::sub_blocks` meets its contract.
 -- Assumes nothing.
-use Prim.Native.Nat.{ℕ, _-_, _*_, _^_}
-use native.Mathlib.Omega.{arith}
-use mathlib.Core.Path.{refl, sym, ap, _∙_}
+use Prim.Native.Nat.{ℕ, _^_, _≤_}
+use mathlib.Core.Path.{_≡_, sym, subst, ap, _∙_}
 use mathlib.Core.List.{List}
-use lib.ListN.{getD}
-use Rattle.rate_matching.proofs.Moving.{S, Turn, in-turn, equal-parts, blocks-length, coding, Moving, moving, moving-more, code-ordered}
+use lib.ListN.{length}
+use Rattle.nr.specs.Construction.{P}
+use Rattle.nr.specs.RateMatching.{subBlocks}
+use borrow.Author.Needs.{needs}
 use Rattle.rate_matching.proofs.sub_blocks.Statement.{statement}
 use Rattle.rate_matching.proofs.sub_blocks.Tie as tie
 
-abbrev Inv-loop : tie.InvT-loop
-Inv-loop blocks n d y₀ size b₀ y b = Moving 0 coding n d y b
+-- what the two functions ask, at the number that an arm names
+module _ (s : tie.Start) where
+  abbrev Asks : ℕ → Type 0
+  Asks m = (s .args .blocks .now ≡ P) × (5 ≤ m) × (m ≤ 9) × (length (s .args .d .now) ≡ 2 ^ m) × (length (s .args .y .now) ≡ 2 ^ m)
 
-abbrev μ-loop : tie.MeasureT-loop
-μ-loop blocks n d y₀ size b₀ y b = 32 - b
+  named : {m : ℕ} → s .args .n ≡ m → Asks m
+  named e = subst Asks e (s .pre)
 
--- ---- in a turn
+  -- and what they make
+  made : {m : ℕ} {y : List ℕ} → s .args .n ≡ m → y ≡ subBlocks (2 ^ m) (s .args .d .now) → y ≡ subBlocks (2 ^ s .args .n) (s .args .d .now)
+  made e q = q ∙ ap (λ (m : ℕ). subBlocks (2 ^ m) (s .args .d .now)) (sym e)
 
-module _ (c : tie.In-loop Inv-loop μ-loop) where
-  abbrev start : tie.Start Inv-loop μ-loop
-  start = c .before .before .before .before .before
+copy-blocks-requires : tie.Need-copy-blocks-requires
+copy-blocks-requires c κs = named (c .before .before .before .before .before) (c .before .match .keys1)
 
-  abbrev b : ℕ
-  b = c .before .loop .b
+copy-blocks-requires-2 : tie.Need-copy-blocks-requires-2
+copy-blocks-requires-2 c κs = named (c .before .before .before .before .before) (c .before .match .keys2)
 
-  abbrev from : ℕ
-  from = getD (start .args .blocks .now) b 0 * S (start .args .n)
+copy-blocks-requires-3 : tie.Need-copy-blocks-requires-3
+copy-blocks-requires-3 c κs = named (c .before .before .before .before .before) (c .before .match .keys3)
 
-  turn : Turn (start .args .blocks .now) (start .args .n) b
-  turn = in-turn (start .args .n) b (start .pre .0) (start .pre .1) (start .pre .2) (omega arith)
+copy-blocks-requires-4 : tie.Need-copy-blocks-requires-4
+copy-blocks-requires-4 c κs = search needs
 
-loop-again : tie.Need-loop-again Inv-loop μ-loop
-loop-again c =
-    let d = c .before .before .before .before .before .before in
-    let s = start d in
-    moving-more 0 coding (s .args .n) (s .pre .1) (s .pre .2) (s .args .d .now) (s .pre .3) (d .before .loop .inv) (turn d .one-of) _ refl
-    (from d) (ap (λ (t : List ℕ). getD t (b d) 0 * S (s .args .n)) (s .pre .0)) _ (c .before .before .copy .ensures)
+same-length : tie.Need-same-length
+same-length c = search needs
 
-sub-size : tie.Need-sub-size Inv-loop μ-loop
-sub-size c = omega arith
-
-shl-size : tie.Need-shl-size Inv-loop μ-loop
-shl-size c = omega arith
-
-loop-holds : tie.Need-loop-holds Inv-loop μ-loop
-loop-holds c =
-    let s = c .before .before .before in
-    moving 0 coding (s .args .n) (s .pre .1) (s .pre .2) (s .args .d .now) (s .args .y .now) (s .pre .4)
-
-shared-slice-read-from : tie.Need-shared-slice-read-from Inv-loop μ-loop
-shared-slice-read-from c = omega arith
-
-cast-from : tie.Need-cast-from Inv-loop μ-loop
-cast-from c = omega (arith, c .shared-slice-known3 .given (b (c .before)))
-
-mul-from : tie.Need-mul-from Inv-loop μ-loop
-mul-from c = omega (arith, turn (c .before) .named-end, turn (c .before) .short)
-
-add-from-end : tie.Need-add-from-end Inv-loop μ-loop
-add-from-end c = omega (arith, turn (c .before) .named-end, turn (c .before) .short)
-
-mul-to : tie.Need-mul-to Inv-loop μ-loop
-mul-to c = omega (arith, turn (c .before) .own-end, turn (c .before) .short)
-
-add-to-end : tie.Need-add-to-end Inv-loop μ-loop
-add-to-end c = omega (arith, turn (c .before) .own-end, turn (c .before) .short)
-
-sub-copy : tie.Need-sub-copy Inv-loop μ-loop
-sub-copy c = omega arith
-
-part-copy-start : tie.Need-part-copy-start Inv-loop μ-loop
-part-copy-start c = omega arith
-
-part-copy-end : tie.Need-part-copy-end Inv-loop μ-loop
-part-copy-end c = omega (arith, turn (c .before) .named-end, start (c .before) .pre .3)
-
-sub-copy-2 : tie.Need-sub-copy-2 Inv-loop μ-loop
-sub-copy-2 c = omega arith
-
-part-copy-start-2 : tie.Need-part-copy-start-2 Inv-loop μ-loop
-part-copy-start-2 c = omega arith
-
-part-copy-end-2 : tie.Need-part-copy-end-2 Inv-loop μ-loop
-part-copy-end-2 c = omega (arith, turn (c .before .before) .own-end, c .before .before .before .loop .inv .size)
-
-copy-requires : tie.Need-copy-requires Inv-loop μ-loop
-copy-requires c κs =
-    let d = c .before .before .before in
-    let s = start d in
-    equal-parts (s .args .n) (from d) _ (s .args .d .now) (d .before .loop .y)
-    (omega (arith, turn d .named-end, s .pre .3)) (omega (arith, turn d .own-end, d .before .loop .inv .size))
-
-add-b : tie.Need-add-b Inv-loop μ-loop
-add-b c = omega (arith, turn (c .before .before .before .before .before .before) .one-of)
-
-loop-less : tie.Need-loop-less Inv-loop μ-loop
-loop-less c = omega (arith, turn (c .before .before .before .before .before .before) .one-of)
-
-same-length : tie.Need-same-length Inv-loop μ-loop
-same-length c = c .before .loop .inv .size ∙ sym (c .before .before .before .before .before .pre .4)
-
-returns : tie.Need-returns Inv-loop μ-loop
+returns : tie.Need-returns
 returns c =
-    let s = c .before .before .before .before .before in
-    code-ordered (s .args .n) (s .pre .1) (s .pre .2) (c .before .loop .inv) (omega (arith, blocks-length (s .pre .0)))
+    let a = c .before .before .before .before in
+    made (a .before .before .before .before) (a .match .keys1) (c .before .before .copy-blocks .ensures)
+
+same-length-2 : tie.Need-same-length-2
+same-length-2 c = search needs
+
+returns-2 : tie.Need-returns-2
+returns-2 c =
+    let a = c .before .before .before .before in
+    made (a .before .before .before .before) (a .match .keys2) (c .before .before .copy-blocks2 .ensures)
+
+same-length-3 : tie.Need-same-length-3
+same-length-3 c = search needs
+
+returns-3 : tie.Need-returns-3
+returns-3 c =
+    let a = c .before .before .before .before in
+    made (a .before .before .before .before) (a .match .keys3) (c .before .before .copy-blocks3 .ensures)
+
+same-length-4 : tie.Need-same-length-4
+same-length-4 c = search needs
+
+returns-4 : tie.Need-returns-4
+returns-4 c = search needs
 
 pub sub-blocks-spec : {M : Type 1} → statement M
 sub-blocks-spec =
     tie.close
     (tie.spec
-    Inv-loop
-    μ-loop
-    sub-size
-    shl-size
-    loop-holds
-    shared-slice-read-from
-    cast-from
-    mul-from
-    add-from-end
-    mul-to
-    add-to-end
-    sub-copy
-    part-copy-start
-    part-copy-end
-    sub-copy-2
-    part-copy-start-2
-    part-copy-end-2
-    copy-requires
-    add-b
-    loop-less
-    loop-again
+    copy-blocks-requires
+    copy-blocks-requires-2
+    copy-blocks-requires-3
+    copy-blocks-requires-4
     same-length
-    returns)
+    returns
+    same-length-2
+    returns-2
+    same-length-3
+    returns-3
+    same-length-4
+    returns-4)
