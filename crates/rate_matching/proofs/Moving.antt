@@ -5,7 +5,7 @@ use native.Mathlib.Nat.{mul-le-mul-right, suc-mul, div-add-mod', mod-lt, mul-com
 use native.Mathlib.Decide.{decLe}
 use native.Mathlib.Numerals.{add-one}
 use native.Mathlib.Omega.{arith}
-use mathlib.Core.Path.{_≡_, refl, sym, subst, subst₂, ap, ap₂, _∙_}
+use mathlib.Core.Path.{_≡_, refl, sym, subst, ap, ap₂, _∙_}
 use mathlib.Core.Bool.{Bool, true, false}
 use mathlib.Core.List.{List}
 use lib.Arith.{digits-div}
@@ -119,16 +119,17 @@ pub record Moving {A : Type 0} (none : A) (w : Way) (n : ℕ) (x row : List A) (
   pub size : length row ≡ 2 ^ n
   pub holds : (p : ℕ) → p < 2 ^ n → w .turn (p / 2 ^ (n - 5)) < b → getD row p none ≡ getD x (source w n p) none
 
+-- before the first
+pub moving : {A : Type 0} (none : A) (w : Way) (n : ℕ) (x row : List A) → length row ≡ 2 ^ n → Moving none w n x row 0
+moving none w n x row e = record { size = e; holds = λ p h l. absurd (not-suc-le-zero l) }
+
 module _ {A : Type 0} (none : A) (w : Way) (n : ℕ) (low : 5 ≤ n) (high : n ≤ 9) (x : List A) where
   abbrev k : ℕ
   k = n - 5
 
-  inner-block : (p : ℕ) → p < 2 ^ n → p / 2 ^ k < 32
-  inner-block p h = inside k p (subst (λ (m : ℕ). p < m) (sym (code-size n low)) h)
-
-  -- before the first
-  pub moving : (row : List A) → length row ≡ 2 ^ n → Moving none w n x row 0
-  moving row e = record { size = e; holds = λ p h l. absurd (not-suc-le-zero l) }
+  -- position p lies in one of the 32
+  block-lt : (p : ℕ) → p < 2 ^ n → p / 2 ^ k < 32
+  block-lt p h = inside k p (subst (λ (m : ℕ). p < m) (sym (code-size n low)) h)
 
   -- after the last
   pub moved : {row new : List A} {b : ℕ} → Moving none w n x row b → 32 ≤ b → length new ≡ 2 ^ n
@@ -137,7 +138,7 @@ module _ {A : Type 0} (none : A) (w : Way) (n : ℕ) (low : 5 ≤ n) (high : n �
       ext-getD none row new (f .size ∙ sym size)
       (λ p m.
       let h : p < 2 ^ n = omega (arith, f .size) in
-      let t : w .turn (p / 2 ^ k) < b = omega (arith, w .back (p / 2 ^ k) (inner-block p h) .1) in
+      let t : w .turn (p / 2 ^ k) < b = omega (arith, w .back (p / 2 ^ k) (block-lt p h) .1) in
       f .holds p h t ∙ sym (is p h))
 
   -- turn b
@@ -194,7 +195,7 @@ module _ {A : Type 0} (none : A) (w : Way) (n : ℕ) (low : 5 ≤ n) (high : n �
         go p l q true e = inner p (eqb-true (p / 2 ^ k) (w .to b) e)
         go p l q false e =
             let ne : p / 2 ^ k ≡ w .to b → ⊥ = eqb-false (p / 2 ^ k) (w .to b) e in
-            let other : w .turn (p / 2 ^ k) ≡ b → ⊥ = λ v. ne (sym (w .back (p / 2 ^ k) (inner-block p l) .0) ∙ ap (w .to) v) in
+            let other : w .turn (p / 2 ^ k) ≡ b → ⊥ = λ v. ne (sym (w .back (p / 2 ^ k) (block-lt p l) .0) ∙ ap (w .to) v) in
             outer p ne ∙ f .holds p l (omega (arith, other))
 
 -- ---- what the two loops make

@@ -1,6 +1,6 @@
 -- `rate_matching::copy_blocks` meets its contract.
 -- Assumes nothing.
-use Prim.Native.Nat.{ℕ, _-_, _*_, _^_}
+use Prim.Native.Nat.{ℕ, _-_, _*_}
 use native.Mathlib.Omega.{arith}
 use mathlib.Core.Path.{refl, sym, ap, _∙_}
 use mathlib.Core.List.{List}
@@ -46,7 +46,7 @@ shl-size c = omega arith
 loop-holds : tie.Need-loop-holds Inv-loop μ-loop
 loop-holds c =
     let s = c .before .before .before in
-    moving 0 coding (s .args .n) (s .pre .1) (s .pre .2) (s .args .d .now) (s .args .y .now) (s .pre .4)
+    moving 0 coding (s .args .n) (s .args .d .now) (s .args .y .now) (s .pre .4)
 
 shared-slice-read-from : tie.Need-shared-slice-read-from Inv-loop μ-loop
 shared-slice-read-from c = omega arith

@@ -1,6 +1,6 @@
 -- `rate_matching::undo_sub_blocks` meets its contract.
 -- Assumes nothing.
-use Prim.Native.Nat.{ℕ, _-_, _*_, _^_}
+use Prim.Native.Nat.{ℕ, _-_, _*_}
 use native.Mathlib.Omega.{arith}
 use mathlib.Core.Path.{refl, sym, ap, _∙_}
 use mathlib.Core.List.{List}
@@ -47,7 +47,7 @@ shl-size c = omega arith
 loop-holds : tie.Need-loop-holds Inv-loop μ-loop
 loop-holds c =
     let s = c .before in
-    moving (pos 0) decoding (s .args .n) (s .pre .1) (s .pre .2) (s .args .y .now) (s .args .row .now) (s .pre .4)
+    moving (pos 0) decoding (s .args .n) (s .args .y .now) (s .args .row .now) (s .pre .4)
 
 mul-from : tie.Need-mul-from Inv-loop μ-loop
 mul-from c = omega (arith, turn c .own-end, turn c .short)
