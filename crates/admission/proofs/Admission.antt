@@ -50,26 +50,39 @@ module _ (n : ℕ) (h : 5 ≤ n) where
     abbrev r : ℕ
     r = rank (n - 5) p
 
+    -- the tests of `admits`: below N, and in the window, by its front and by its ranks
+    abbrev inN : Bool
+    inN = ltb p (2 ^ n)
+
+    abbrev inRanks : Bool
+    inRanks = leb (w .lo) r && ltb r (w .hi)
+
+    abbrev inWindow : Bool
+    inWindow = leb (w .front) p && inRanks
+
+    abbrev clear : Bool
+    clear = not (has p bars)
+
     -- what the window lets through is not barred
-    kept : T (ltb p (2 ^ n) && (leb (w .front) p && (leb (w .lo) r && ltb r (w .hi)))) → T (ltb p (2 ^ n) && not (has p bars))
+    kept : T (inN && inWindow) → T (inN && clear)
     kept t =
-        let t₁ = right (ltb p (2 ^ n)) (leb (w .front) p && (leb (w .lo) r && ltb r (w .hi))) t in
-        let t₂ = right (leb (w .front) p) (leb (w .lo) r && ltb r (w .hi)) t₁ in
-        pair (ltb p (2 ^ n)) (not (has p bars)) (left (ltb p (2 ^ n)) (leb (w .front) p && (leb (w .lo) r && ltb r (w .hi))) t)
+        let t₁ = right inN inWindow t in
+        let t₂ = right (leb (w .front) p) inRanks t₁ in
+        pair inN clear (left inN inWindow t)
         (not-T (has p bars)
-        (s .free p (leb→le (w .front) p (left (leb (w .front) p) (leb (w .lo) r && ltb r (w .hi)) t₁))
+        (s .free p (leb→le (w .front) p (left (leb (w .front) p) inRanks t₁))
         (leb→le (w .lo) r (left (leb (w .lo) r) (ltb r (w .hi)) t₂)) (ltb→lt r (w .hi) (right (leb (w .lo) r) (ltb r (w .hi)) t₂))))
 
     -- what is not barred goes through
-    through : T (ltb p (2 ^ n) && not (has p bars)) → T (ltb p (2 ^ n) && (leb (w .front) p && (leb (w .lo) r && ltb r (w .hi))))
+    through : T (inN && clear) → T (inN && inWindow)
     through t =
-        let l : p < 2 ^ n = ltb→lt p (2 ^ n) (left (ltb p (2 ^ n)) (not (has p bars)) t) in
-        let u : T (has p bars) → ⊥ = T-not (has p bars) (right (ltb p (2 ^ n)) (not (has p bars)) t) in
-        pair (ltb p (2 ^ n)) (leb (w .front) p && (leb (w .lo) r && ltb r (w .hi))) (left (ltb p (2 ^ n)) (not (has p bars)) t)
-        (pair (leb (w .front) p) (leb (w .lo) r && ltb r (w .hi)) (le→leb (w .front) p (unless (λ x. u (s .early p l x))))
+        let l : p < 2 ^ n = ltb→lt p (2 ^ n) (left inN clear t) in
+        let u : T (has p bars) → ⊥ = T-not (has p bars) (right inN clear t) in
+        pair inN inWindow (left inN clear t)
+        (pair (leb (w .front) p) inRanks (le→leb (w .front) p (unless (λ x. u (s .early p l x))))
         (pair (leb (w .lo) r) (ltb r (w .hi)) (le→leb (w .lo) r (unless (λ x. u (s .low p l x)))) (lt→ltb r (w .hi) (unless′ (λ x. u (s .high p l x))))))
 
-    same : admits n w p ≡ (ltb p (2 ^ n) && not (has p bars))
+    same : admits n w p ≡ (inN && clear)
     unfolding admits
     same = alike _ _ kept through
 

@@ -1,5 +1,4 @@
 -- Laws of the loops of bit selection.
-pub mod Shifts
 pub mod Pieces
 pub mod Sending
 pub mod Summing

@@ -49,17 +49,33 @@ const SUB_BLOCKS: [u8; 32] = [
 // The value of a shortened position, whose bit is known to be 0.
 const CERTAIN: i32 = 1_048_576;
 
-// y_i = d at J(i) (5.4.1.1). A sub-block has 2 ^ (n - 5) bits, so shifts take i apart into block and place.
+// y_i = d at J(i) (5.4.1.1), by sub-blocks: J moves each as a whole.
+fn copy_blocks(blocks: &[u8], n: usize, d: &[u8], y: &mut [u8])
+    requires { ⌜ (now blocks ≡ P) × (5 ≤ n) × (n ≤ 9) × (length (now d) ≡ 2 ^ n) × (length (now y) ≡ 2 ^ n) ⌝ }
+    ensures { λ _. ⌜ now (y .exit) ≡ subBlocks (2 ^ n) (now (d .entry)) ⌝ }
+{
+    let size = 1 << (n - 5);
+    let mut b = 0;
+    while b < blocks.len() {
+        let from = blocks[b] as usize * size;
+        let from_end = from + size;
+        let to = b * size;
+        let to_end = to + size;
+        rows::copy(&d[from..from_end], &mut y[to..to_end]);
+        b += 1;
+    }
+}
+
+// The same. With n as a number the loop is compiled into one or two moves for each sub-block, and not into a call for each.
 fn sub_blocks(blocks: &[u8], n: usize, d: &[u8], y: &mut [u8])
     requires { ⌜ (now blocks ≡ P) × (5 ≤ n) × (n ≤ 9) × (length (now d) ≡ 2 ^ n) × (length (now y) ≡ 2 ^ n) ⌝ }
     ensures { λ _. ⌜ now (y .exit) ≡ subBlocks (2 ^ n) (now (d .entry)) ⌝ }
 {
-    let s = n - 5;
-    let mut i = 0;
-    while i < d.len() {
-        let block = i >> s;
-        y[i] = d[((blocks[block] as usize) << s) + (i - (block << s))];
-        i += 1;
+    match n {
+        7 => copy_blocks(blocks, 7, d, y),
+        8 => copy_blocks(blocks, 8, d, y),
+        9 => copy_blocks(blocks, 9, d, y),
+        _ => copy_blocks(blocks, n, d, y),
     }
 }
 

@@ -6,7 +6,7 @@ use mathlib.Core.Path.{refl, sym, _∙_}
 use lib.ListN.{length}
 use lib.Pow.{pow-pos}
 use Rattle.nr.specs.Construction.{P}
-use Rattle.rate_matching.proofs.Shifts.{code-le}
+use Rattle.rate_matching.proofs.Moving.{code-le}
 use Rattle.rate_matching.proofs.Undoing.{lent-length, lent-zeros, lent-fits, made-le, made-length, made-row}
 use borrow.Author.Needs.{needs}
 use Rattle.rate_matching.proofs.gather.Statement.{statement}

@@ -8,7 +8,7 @@ use lib.Pow.{pow-pos}
 use lib.Seq.{length-take-le}
 use Rattle.nr.specs.Construction.{P}
 use Rattle.nr.specs.RateMatching.{Fits}
-use Rattle.rate_matching.proofs.Shifts.{code-le}
+use Rattle.rate_matching.proofs.Moving.{code-le}
 use Rattle.rate_matching.proofs.Sending.{front-length, front-le, selects}
 use borrow.Author.Needs.{needs}
 use Rattle.rate_matching.proofs.select.Statement.{statement}
