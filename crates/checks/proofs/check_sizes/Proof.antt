@@ -36,30 +36,7 @@ module _ (s : tie.Start) where
   all : Decide 1 (outside (s .args .a) ∷ from-2)
   all = record { is = refl }
 
--- ---- each place, by the one before it
-
-abbrev start : tie.Else2 → tie.Start
-start c = c .before .before
-
-left-2 : (c : tie.Else2) → Decide (start c) 2 (from-2 (start c))
-left-2 c = passes (all (start c)) (rw (le-ltb _ 12 (c .before .if1 .left), le-ltb 140 _ (c .if2 .left)))
-
-abbrev sized : tie.Else3 → tie.Start
-sized c = start (c .before .before)
-
-left-3 : (c : tie.Else3) → Decide (sized c) 3 (from-3 (sized c))
-left-3 c = passes (left-2 (c .before .before)) (ap not (sym (c .before .is-coded-length .ensures)) ∙ c .if3 .left)
-
-left-4 : (c : tie.Else4) → Decide (sized (c .before)) 4 (from-4 (sized (c .before)))
-left-4 c = passes (left-3 (c .before)) (le-ltb _ _ (c .if4 .left))
-
-left-5 : (c : tie.Else5) → Decide (sized (c .before .before)) 5 (from-5 (sized (c .before .before)))
-left-5 c = passes (left-4 (c .before)) (ap not (eq-eqb _ _ (c .if5 .left)))
-
-left-none : (c : tie.Else6) → Decide (sized (c .before .before .before)) 6 []
-left-none c = passes (left-5 (c .before)) (ap not (eq-eqb _ _ (c .if6 .left)))
-
--- ---- the answers
+-- ---- the answers, each by what the tests before it have left
 
 returns : tie.Need-returns
 unfolding number placeOf
@@ -69,12 +46,24 @@ returns-2 : tie.Need-returns-2
 unfolding number placeOf
 returns-2 c = record { number = applies (all (c .before .before)) (rw (le-ltb _ 12 (c .before .if1 .left), lt-ltb 140 _ (c .if2 .taken))); place = refl }
 
+abbrev start : tie.Else2 → tie.Start
+start c = c .before .before
+
+left-2 : (c : tie.Else2) → Decide (start c) 2 (from-2 (start c))
+left-2 c = passes (all (start c)) (rw (le-ltb _ 12 (c .before .if1 .left), le-ltb 140 _ (c .if2 .left)))
+
 is-coded-length-requires : tie.Need-is-coded-length-requires
 is-coded-length-requires c κs = search needs
 
 returns-3 : tie.Need-returns-3
 unfolding number placeOf
 returns-3 c = record { number = applies (left-2 (c .before .before)) (ap not (sym (c .before .is-coded-length .ensures)) ∙ c .if3 .taken); place = refl }
+
+abbrev sized : tie.Else3 → tie.Start
+sized c = start (c .before .before)
+
+left-3 : (c : tie.Else3) → Decide (sized c) 3 (from-3 (sized c))
+left-3 c = passes (left-2 (c .before .before)) (ap not (sym (c .before .is-coded-length .ensures)) ∙ c .if3 .left)
 
 add-if4 : tie.Need-add-if4
 add-if4 c = search needs
@@ -83,13 +72,22 @@ returns-4 : tie.Need-returns-4
 unfolding number placeOf
 returns-4 c = record { number = applies (left-3 (c .before)) (lt-ltb _ _ (c .if4 .taken)); place = refl }
 
+left-4 : (c : tie.Else4) → Decide (sized (c .before)) 4 (from-4 (sized (c .before)))
+left-4 c = passes (left-3 (c .before)) (le-ltb _ _ (c .if4 .left))
+
 returns-5 : tie.Need-returns-5
 unfolding number placeOf
 returns-5 c = record { number = applies (left-4 (c .before)) (ap not (ne-eqb _ _ (c .if5 .taken))); place = refl }
 
+left-5 : (c : tie.Else5) → Decide (sized (c .before .before)) 5 (from-5 (sized (c .before .before)))
+left-5 c = passes (left-4 (c .before)) (ap not (eq-eqb _ _ (c .if5 .left)))
+
 returns-6 : tie.Need-returns-6
 unfolding number placeOf
 returns-6 c = record { number = applies (left-5 (c .before)) (ap not (ne-eqb _ _ (c .if6 .taken))); place = refl }
+
+left-none : (c : tie.Else6) → Decide (sized (c .before .before .before)) 6 []
+left-none c = passes (left-5 (c .before)) (ap not (eq-eqb _ _ (c .if6 .left)))
 
 returns-7 : tie.Need-returns-7
 unfolding number placeOf

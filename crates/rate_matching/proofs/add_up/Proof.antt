@@ -17,15 +17,19 @@ abbrev μ-loop : tie.MeasureT-loop
 
 loop-again : tie.Need-loop-again Inv-loop μ-loop
 loop-again c =
-    let l = c .before .before .before .before .before .loop in
-    let s = c .before .before .before .before .before .before in
-    summing-more (l .inv) (s .pre .0 .2) (s .pre .0 .3) _ (l .from + length (s .args .y .now)) (c .before .add .ensures) (s .pre .0 .0) refl (omega (arith, l .inv .within))
+    let k = c .before in
+    let t = k .before .before .before .before in
+    let l = t .loop in
+    let s = t .before in
+    summing-more (l .inv) (s .pre .0 .2) (s .pre .0 .3) _ (l .from + length (s .args .y .now)) (k .add .ensures) (s .pre .0 .0) refl (omega (arith, l .inv .within))
 
 returns : tie.Need-returns Inv-loop μ-loop
 returns c =
-    let l = c .before .before .before .before .before .loop in
-    let s = c .before .before .before .before .before .before in
-    summed (l .inv) (s .pre .0 .2) (s .pre .0 .3) _ (length (s .args .soft .now)) (c .before .add2 .ensures) refl (omega arith)
+    let k = c .before in
+    let t = k .before .before .before .before in
+    let l = t .loop in
+    let s = t .before in
+    summed (l .inv) (s .pre .0 .2) (s .pre .0 .3) _ (length (s .args .soft .now)) (k .add2 .ensures) refl (omega arith)
     ∙ undo-repetition (length (s .args .y .now)) (s .args .soft .now)
 
 loop-holds : tie.Need-loop-holds Inv-loop μ-loop
@@ -56,7 +60,7 @@ add-requires c κs =
     piece-asks (l .inv) (s .pre .0 .2) (s .pre .0 .3) (l .from + length (s .args .y .now)) (omega arith) (omega (arith, l .inv .within)) (omega arith)
 
 loop-less : tie.Need-loop-less Inv-loop μ-loop
-loop-less c = omega (arith, c .before .before .before .before .before .loop .inv .within)
+loop-less c = let k = c .before in omega (arith, k .before .before .before .before .loop .inv .within)
 
 mul-add-2 : tie.Need-mul-add-2 Inv-loop μ-loop
 mul-add-2 c = omega (arith, c .before .loop .inv .within)
@@ -77,7 +81,7 @@ add-requires-2 c κs =
     piece-asks (l .inv) (s .pre .0 .2) (s .pre .0 .3) (length (s .args .soft .now)) (l .inv .within) (omega arith) (omega arith)
 
 same-length : tie.Need-same-length Inv-loop μ-loop
-same-length c = c .before .add2 .kept .1 .0 ∙ c .before .before .before .before .before .loop .inv .size
+same-length c = let k = c .before in k .add2 .kept .1 .0 ∙ k .before .before .before .before .loop .inv .size
 
 pub add-up-spec : {M : Type 1} → statement M
 add-up-spec =

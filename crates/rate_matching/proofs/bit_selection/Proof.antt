@@ -14,10 +14,12 @@ use Rattle.rate_matching.proofs.bit_selection.Tie as tie
 
 returns-2 : tie.Need-returns-2
 returns-2 c =
-    let s = c .before .before .before .before .before .before .before .before .before in
+    let k = c .before .before in
+    let e = k .before .before .before in
+    let s = e .before .before .before .before in
     let y = s .args .y .now in
-    let told = c .before .before .before .before .before .enum-told2 .given .1 in
-    c .before .before .copy .ensures ∙ sym (sent-puncturing y _ told (le-of-lt (fitting (length y) _ told (s .pre .1))))
+    let told = e .enum-told2 .given .1 in
+    k .copy .ensures ∙ sym (sent-puncturing y _ told (le-of-lt (fitting (length y) _ told (s .pre .1))))
 
 enum-told : tie.Need-enum-told
 enum-told c = search needs
@@ -29,7 +31,7 @@ enum-told-2 : tie.Need-enum-told-2
 enum-told-2 c = search needs
 
 sub-unsent : tie.Need-sub-unsent
-sub-unsent c = le-of-lt (fitting (length (c .before .before .before .before .args .y .now)) _ (c .enum-told2 .given .1) (c .before .before .before .before .pre .1))
+sub-unsent c = let s = c .before .before .before .before in le-of-lt (fitting (length (s .args .y .now)) _ (c .enum-told2 .given .1) (s .pre .1))
 
 sub-copy : tie.Need-sub-copy
 sub-copy c = search needs
@@ -42,9 +44,10 @@ part-copy-end c = search needs
 
 copy-requires : tie.Need-copy-requires
 copy-requires c κs =
-    let s = c .before .before .before .before .before .before in
+    let e = c .before .before in
+    let s = e .before .before .before .before in
     let y = s .args .y .now in
-    let l : length (s .args .out .now) ≤ length y = le-of-lt (fitting (length y) _ (c .before .before .enum-told2 .given .1) (s .pre .1)) in
+    let l : length (s .args .out .now) ≤ length y = le-of-lt (fitting (length y) _ (e .enum-told2 .given .1) (s .pre .1)) in
     sym (mid-len _ (length y) y (omega arith) ∙ omega arith)
 
 enum-told-3 : tie.Need-enum-told-3
@@ -52,23 +55,27 @@ enum-told-3 c = search needs
 
 slice-aggregate-copy : tie.Need-slice-aggregate-copy
 slice-aggregate-copy c =
-    let s = c .before .before .before .before .before in
+    let e = c .before in
+    let s = e .before .before .before .before in
     let y = s .args .y .now in
-    sym (length-take-le _ y (le-of-lt (fitting (length y) _ (c .before .enum-told3 .given .1) (s .pre .1))))
+    sym (length-take-le _ y (le-of-lt (fitting (length y) _ (e .enum-told3 .given .1) (s .pre .1))))
 
 copy-requires-2 : tie.Need-copy-requires-2
 copy-requires-2 c κs =
-    let s = c .before .before .before .before .before .before in
+    let e = c .before .before in
+    let s = e .before .before .before .before in
     let y = s .args .y .now in
-    sym (length-take-le _ y (le-of-lt (fitting (length y) _ (c .before .before .enum-told3 .given .1) (s .pre .1))))
+    sym (length-take-le _ y (le-of-lt (fitting (length y) _ (e .enum-told3 .given .1) (s .pre .1))))
 
 same-length : tie.Need-same-length
 same-length c = search needs
 
 returns : tie.Need-returns
 returns c =
-    let s = c .before .before .before .before .before .before .before .before in
-    c .before .before .repeat .ensures ∙ sym (sent-repetition (s .args .y .now) (length (s .args .out .now)) (c .before .before .before .before .enum-told .given .1))
+    let k = c .before .before in
+    let e = k .before .before in
+    let s = e .before .before .before .before in
+    k .repeat .ensures ∙ sym (sent-repetition (s .args .y .now) (length (s .args .out .now)) (e .enum-told .given .1))
 
 same-length-2 : tie.Need-same-length-2
 same-length-2 c = search needs
@@ -78,10 +85,12 @@ same-length-3 c = search needs
 
 returns-3 : tie.Need-returns-3
 returns-3 c =
-    let s = c .before .before .before .before .before .before .before .before .before in
+    let k = c .before .before in
+    let e = k .before .before .before in
+    let s = e .before .before .before .before in
     let y = s .args .y .now in
-    let told = c .before .before .before .before .before .enum-told3 .given .1 in
-    c .before .before .copy2 .ensures ∙ sym (sent-shortening y _ told (le-of-lt (fitting (length y) _ told (s .pre .1))))
+    let told = e .enum-told3 .given .1 in
+    k .copy2 .ensures ∙ sym (sent-shortening y _ told (le-of-lt (fitting (length y) _ told (s .pre .1))))
 
 pub bit-selection-spec : {M : Type 1} → statement M
 bit-selection-spec =

@@ -11,9 +11,11 @@ use Rattle.rate_matching.proofs.put_first.Tie as tie
 
 returns : tie.Need-returns
 returns c =
-    let s = c .before .before .before .before .before .before in
+    let f = c .before in
+    let k = f .before .before .before in
+    let s = k .before .before in
     undo-shortening (length (s .args .y .now)) (s .args .soft .now) (s .args .y .now) refl (s .pre)
-    _ (c .before .before .before .before .copy-soft .ensures) _ (c .before .fill-certain .ensures)
+    _ (k .copy-soft .ensures) _ (f .fill-certain .ensures)
 
 slice-relend-prefix-copy-soft : tie.Need-slice-relend-prefix-copy-soft
 slice-relend-prefix-copy-soft c = search needs

@@ -41,13 +41,17 @@ copy-requires c κs =
     let l = c .before .before .loop in
     mid-len (l .at) _ (l .out) (omega arith) ∙ omega arith
 
+-- behind a whole copy of y: the place where its turn began
+abbrev turn : tie.After-slice-known2 Inv-loop μ-loop → tie.At-loop Inv-loop μ-loop
+turn c = let k = c .before .before in k .before .before .before
+
 loop-less : tie.Need-loop-less Inv-loop μ-loop
-loop-less c = omega (arith, filling-length (c .before .before .before .before .before .loop .inv .0))
+loop-less c = omega (arith, filling-length (turn c .loop .inv .0))
 
 loop-again : tie.Need-loop-again Inv-loop μ-loop
 loop-again c =
-    let l = c .before .before .before .before .before .loop in
-    let y = c .before .before .before .before .before .before .before .before .args .y .now in (
+    let l = turn c .loop in
+    let y = turn c .before .before .before .args .y .now in (
       next-piece y _ refl (l .inv .0) (l .inv .1) (l .at + length y) _ (omega arith) (omega arith) (omega arith) (c .before .before .copy .ensures ∙ sym (take-all (l .at + length y - l .at) y (omega arith))),
       add-mod-right (l .at) (length y) ∙ l .inv .1,
     )
@@ -56,7 +60,7 @@ sub-rest : tie.Need-sub-rest Inv-loop μ-loop
 sub-rest c = omega (arith, filling-length (c .before .loop .inv .0))
 
 slice-aggregate-copy : tie.Need-slice-aggregate-copy Inv-loop μ-loop
-slice-aggregate-copy c = sym (length-take-le _ (c .before .before .before .before .before .args .y .now) (omega arith))
+slice-aggregate-copy c = let l = c .before .before in sym (length-take-le _ (l .before .before .before .args .y .now) (omega arith))
 
 sub-copy-2 : tie.Need-sub-copy-2 Inv-loop μ-loop
 sub-copy-2 c = omega (arith, filling-length (c .before .before .loop .inv .0))
@@ -69,17 +73,22 @@ part-copy-end-2 c = omega arith
 
 copy-requires-2 : tie.Need-copy-requires-2 Inv-loop μ-loop
 copy-requires-2 c κs =
-    let l = c .before .before .before .loop in
+    let t = c .before .before .before in
+    let l = t .loop in
     mid-len (l .at) (length (l .out)) (l .out) (omega arith)
-    ∙ sym (length-take-le _ (c .before .before .before .before .before .before .args .y .now) (omega arith))
+    ∙ sym (length-take-le _ (t .before .before .before .args .y .now) (omega arith))
+
+-- behind the rest of a copy: the loop's end
+abbrev end : tie.After-slice-known3 Inv-loop μ-loop → tie.At-loop Inv-loop μ-loop
+end c = let k = c .before .before in k .before .before .before .before
 
 same-length : tie.Need-same-length Inv-loop μ-loop
-same-length c = omega (arith, filling-length (c .before .before .before .before .before .before .loop .inv .0))
+same-length c = omega (arith, filling-length (end c .loop .inv .0))
 
 returns : tie.Need-returns Inv-loop μ-loop
 returns c =
-    let l = c .before .before .before .before .before .before .loop in
-    let s = c .before .before .before .before .before .before .before .before .before in
+    let l = end c .loop in
+    let s = end c .before .before .before in
     let y = s .args .y .now in
     filled
     (next-piece y _ refl (l .inv .0) (l .inv .1) (length (l .out)) _ (omega (arith, filling-length (l .inv .0))) (omega arith) (omega arith)

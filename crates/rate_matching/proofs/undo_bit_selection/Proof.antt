@@ -10,18 +10,24 @@ use Rattle.rate_matching.proofs.undo_bit_selection.Tie as tie
 
 returns : tie.Need-returns
 returns c =
-    let s = c .before .before .before .before .before in
-    c .before .add-up .ensures ∙ sym (ap (gathered (length (s .args .y .now)) (s .args .soft .now)) (c .before .before .before .enum-told .given .1))
+    let k = c .before in
+    let e = k .before .before in
+    let s = e .before .before in
+    k .add-up .ensures ∙ sym (ap (gathered (length (s .args .y .now)) (s .args .soft .now)) (e .enum-told .given .1))
 
 returns-2 : tie.Need-returns-2
 returns-2 c =
-    let s = c .before .before .before .before .before in
-    c .before .put-last .ensures ∙ sym (ap (gathered (length (s .args .y .now)) (s .args .soft .now)) (c .before .before .before .enum-told2 .given .1))
+    let k = c .before in
+    let e = k .before .before in
+    let s = e .before .before in
+    k .put-last .ensures ∙ sym (ap (gathered (length (s .args .y .now)) (s .args .soft .now)) (e .enum-told2 .given .1))
 
 returns-3 : tie.Need-returns-3
 returns-3 c =
-    let s = c .before .before .before .before .before in
-    c .before .put-first .ensures ∙ sym (ap (gathered (length (s .args .y .now)) (s .args .soft .now)) (c .before .before .before .enum-told3 .given .1))
+    let k = c .before in
+    let e = k .before .before in
+    let s = e .before .before in
+    k .put-first .ensures ∙ sym (ap (gathered (length (s .args .y .now)) (s .args .soft .now)) (e .enum-told3 .given .1))
 
 enum-told : tie.Need-enum-told
 enum-told c = search needs

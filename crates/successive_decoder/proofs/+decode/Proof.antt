@@ -53,10 +53,34 @@ falls-by-one : (n t : ℕ) → (n ≡ 0 → ⊥) → n ≡ t → n - 1 < t
 falls-by-one n t ne e = let p = pos-of-ne-zero ne in omega arith
 
 module _ (t : ℕ) where
-  -- ---- the places, and the way back from each
-
   abbrev Start : Type 0
   Start = decode-lts.Start (claims t) (decode-at t) decode.Post
+
+  -- ---- a single position
+
+  abbrev Single : Type 0
+  Single = decode-lts.Then1 (claims t) (decode-at t) decode.Post
+
+  abbrev start-single : Single → Start
+  start-single e = e .before .before .before .before
+
+  -- behind the value that is copied out and the mark that is read
+  abbrev of-decision : decode-lts.After-shared-slice-known2 (claims t) (decode-at t) decode.Post → Single
+  of-decision c = c .before .before
+
+  returns : decode-lts.Need-returns (claims t) (decode-at t) decode.Post
+  returns c =
+      let e = of-decision (c .before) in
+      let s = start-single e in
+      let a = s .args in
+      let q =
+      passed (λ (x : ℤ). c .decision .result ≡ decide (getD (a .marks .now) 0 0) x) (getD (a .work .now) 1 (pos 0))
+      (one-fits (a .n) (a .work .now) (e .if1 .taken) (s .pre .1 .bound)) (c .decision .ensures) in (
+        one-est (a .n) (a .work .now) (a .marks .now) (a .est .now) (c .decision .result) (e .if1 .taken) (s .pre .1 .bits) q,
+        (one-sums (a .n) (a .work .now) (a .marks .now) (a .sums .now) (c .decision .result) (e .if1 .taken) (s .pre .1 .words) q, refl),
+      )
+
+  -- ---- two halves: the places, and the way back from each
 
   abbrev Longer : Type 0
   Longer = decode-lts.Else1 (claims t) (decode-at t) decode.Post
@@ -111,14 +135,6 @@ module _ (t : ℕ) where
   abbrev ready : (e : Longer) → At e Ready
   ready e = start e .pre .1
 
-  falls-here : (e : Longer) → start e .args .n - 1 < t
-  falls-here e = falls-by-one (start e .args .n) t (e .if1 .left) (start e .pre .0)
-
-  -- the first half of a row that is as long as the marks
-  part-size : (e : Longer) (row : List ℕ) → length row ≡ 2 ^ start e .args .n
-      → length (start e .args .marks .now) / 2 ≡ length (take (length (start e .args .marks .now) / 2) row)
-  part-size e row l = sym (length-take-le (length (start e .args .marks .now) / 2) row (omega (arith, ready e .marked)))
-
   abbrev split : (c : After-f) → At (of-f c) Split
   split c = record { w₁ = c .f-row .last .0; row₁ = c .f-row .ensures .0; kept₁ = c .f-row .ensures .1 }
 
@@ -155,31 +171,7 @@ module _ (t : ℕ) where
     kept₄ = c .decode2 .ensures .1 .1;
   }
 
-  -- ---- a single position
-
-  abbrev Single : Type 0
-  Single = decode-lts.Then1 (claims t) (decode-at t) decode.Post
-
-  abbrev start-single : Single → Start
-  start-single e = e .before .before .before .before
-
-  -- behind the value that is copied out and the mark that is read
-  abbrev of-decision : decode-lts.After-shared-slice-known2 (claims t) (decode-at t) decode.Post → Single
-  of-decision c = c .before .before
-
   -- ---- the answers
-
-  returns : decode-lts.Need-returns (claims t) (decode-at t) decode.Post
-  returns c =
-      let e = of-decision (c .before) in
-      let s = start-single e in
-      let a = s .args in
-      let q =
-      passed (λ (x : ℤ). c .decision .result ≡ decide (getD (a .marks .now) 0 0) x) (getD (a .work .now) 1 (pos 0))
-      (one-fits (a .n) (a .work .now) (e .if1 .taken) (s .pre .1 .bound)) (c .decision .ensures) in (
-        one-est (a .n) (a .work .now) (a .marks .now) (a .est .now) (c .decision .result) (e .if1 .taken) (s .pre .1 .bits) q,
-        (one-sums (a .n) (a .work .now) (a .marks .now) (a .sums .now) (c .decision .result) (e .if1 .taken) (s .pre .1 .words) q, refl),
-      )
 
   returns-2 : decode-lts.Need-returns-2 (claims t) (decode-at t) decode.Post
   returns-2 c =
@@ -189,6 +181,9 @@ module _ (t : ℕ) where
         est-is (e .if1 .left) (ready e) (both d),
         (sums-are (e .if1 .left) (ready e) (both d) (m .combine .last .0) (m .combine .ensures), work-kept (e .if1 .left) (ready e) (both d)),
       )
+
+  falls-here : (e : Longer) → start e .args .n - 1 < t
+  falls-here e = falls-by-one (start e .args .n) t (e .if1 .left) (start e .pre .0)
 
   f-row-requires : decode-lts.Need-f-row-requires (claims t) (decode-at t) decode.Post
   f-row-requires c κs = let e = c .before in f-asks (e .if1 .left) (ready e)
@@ -234,6 +229,11 @@ module _ (t : ℕ) where
 
   sub-decode : decode-lts.Need-sub-decode (claims t) (decode-at t) decode.Post
   sub-decode c = omega arith
+
+  -- the first half of a row that is as long as the marks
+  part-size : (e : Longer) (row : List ℕ) → length row ≡ 2 ^ start e .args .n
+      → length (start e .args .marks .now) / 2 ≡ length (take (length (start e .args .marks .now) / 2) row)
+  part-size e row l = sym (length-take-le (length (start e .args .marks .now) / 2) row (omega (arith, ready e .marked)))
 
   slice-aggregate-decode : decode-lts.Need-slice-aggregate-decode (claims t) (decode-at t) decode.Post
   slice-aggregate-decode c = let e = of-f (c .before .before) in part-size e (start e .args .marks .now) (ready e .marked)

@@ -9,6 +9,9 @@ use Rattle.successive_decoder.proofs.Step.{marks-fit, top-ready}
 use Rattle.successive_decoder.proofs.decode_row.Statement.{statement}
 use Rattle.successive_decoder.proofs.decode_row.Tie as tie
 
+returns : tie.Need-returns
+returns c = search needs
+
 -- behind the arguments of `decode`
 abbrev start : tie.After-decode-arg2 → tie.Start
 start c = c .before .before .before .before
@@ -19,9 +22,6 @@ fit s = marks-fit (s .args .n) (s .pre .0 .0) (s .args .marks .now) (s .pre .0 .
 -- the part of `sums` that is lent
 sums-size : (s : tie.Start) → length {A = ℕ} (take (length (s .args .marks .now)) (replicate 512 0)) ≡ length (s .args .marks .now)
 sums-size s = front-size (length (s .args .marks .now)) 512 0 (fit s)
-
-returns : tie.Need-returns
-returns c = search needs
 
 array-borrow-prefix-sums : tie.Need-array-borrow-prefix-sums
 array-borrow-prefix-sums c = fit (start c)
