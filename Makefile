@@ -7,7 +7,7 @@
 # make uninstall     removes what make install has put there
 # make robust        random calls and the boundary, with the sanitizers and valgrind (CALLS=1000000 SEED=1)
 # make long          decoding against the second program for some minutes (ROUNDS=60 SEED=1)
-# make bench         times coding and decoding against plain C and the second program
+# make bench         times coding and decoding against plain C and the second program, or against another archive (BEFORE=old.a)
 # make bler          block error rate in white noise: docs/bler.csv, docs/bler.svg (A=40 BLOCKS=400000 SEED=1 TO=docs)
 # make false-alarms  how often noise is taken for a message (ROWS=20000000 SEED=1)
 SHELL := bash
@@ -94,7 +94,7 @@ long: lib
 
 bench: lib
 	@cd rust
-	cargo run --quiet --release -p bench
+	$(if $(BEFORE),BEFORE="$(abspath $(BEFORE))") cargo run --quiet --release -p bench
 
 bler: TO ?= docs
 bler: lib

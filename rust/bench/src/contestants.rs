@@ -4,8 +4,9 @@ use channel::{Random, received};
 use conformance::trials;
 use speltfeather::{Numbers, Refusal};
 
-/// A call of plain.c, with the types of the interface: the input is bits or soft values.
-type Plain<T> = unsafe extern "C" fn(u64, u64, u16, u16, *const T, usize, *mut u8, usize) -> u64;
+/// A call with the types of the interface: the input is bits or soft values.
+pub type Plain<T> =
+    unsafe extern "C" fn(u64, u64, u16, u16, *const T, usize, *mut u8, usize) -> u64;
 
 unsafe extern "C" {
     static plain_encode_1: Plain<u8>;
@@ -23,27 +24,27 @@ pub struct Message<T> {
 
 pub type Contestant<T> = fn(&Numbers, &[T], &mut [u8]);
 
-/// The library, plain C with 1 and with 16 terms of the Gold sequence at a time, and the reference.
-pub type Contestants<T> = [Contestant<T>; 4];
+pub type Contestants<T, const N: usize> = [Contestant<T>; N];
 
-pub const CODERS: Contestants<u8> = [
+/// The library, plain C with 1 and with 16 terms of the Gold sequence at a time, and the reference.
+pub const CODERS: Contestants<u8, 4> = [
     |numbers, payload, out| library(speltfeather::encode(numbers, payload, out)),
     // SAFETY: a constant of plain.c.
-    |numbers, payload, out| plain(unsafe { plain_encode_1 }, numbers, payload, out),
+    |numbers, payload, out| call(unsafe { plain_encode_1 }, numbers, payload, out),
     // SAFETY: a constant of plain.c.
-    |numbers, payload, out| plain(unsafe { plain_encode_16 }, numbers, payload, out),
+    |numbers, payload, out| call(unsafe { plain_encode_16 }, numbers, payload, out),
     |numbers, payload, out| {
         let Numbers { a, e, rnti, n_id } = *numbers;
         reference(reference::encode(a, e, rnti, n_id, payload, out));
     },
 ];
 
-pub const DECODERS: Contestants<i32> = [
+pub const DECODERS: Contestants<i32, 4> = [
     |numbers, soft, out| library(speltfeather::decode(numbers, soft, out)),
     // SAFETY: a constant of plain.c.
-    |numbers, soft, out| plain(unsafe { plain_decode_1 }, numbers, soft, out),
+    |numbers, soft, out| call(unsafe { plain_decode_1 }, numbers, soft, out),
     // SAFETY: a constant of plain.c.
-    |numbers, soft, out| plain(unsafe { plain_decode_16 }, numbers, soft, out),
+    |numbers, soft, out| call(unsafe { plain_decode_16 }, numbers, soft, out),
     |numbers, soft, out| {
         let Numbers { a, e, rnti, n_id } = *numbers;
         reference(reference::decode(a, e, rnti, n_id, soft, out));
@@ -58,7 +59,8 @@ fn reference(answer: (u8, usize)) {
     assert_eq!(answer, (0, 0), "an accepted call");
 }
 
-fn plain<T>(call: Plain<T>, numbers: &Numbers, input: &[T], out: &mut [u8]) {
+/// Makes a call that must give 0.
+pub fn call<T>(call: Plain<T>, numbers: &Numbers, input: &[T], out: &mut [u8]) {
     let Numbers { a, e, rnti, n_id } = *numbers;
     // SAFETY: the pointers come from two slices and stand with their lengths.
     let answer = unsafe {
@@ -104,7 +106,10 @@ pub fn to_decode(a: u64, e: u64, random: &mut Random) -> Message<i32> {
 }
 
 /// Asserts that all give the same bits.
-pub fn assert_all_equal<T>(contestants: &Contestants<T>, messages: &[Message<T>]) {
+pub fn assert_all_equal<T, const N: usize>(
+    contestants: &Contestants<T, N>,
+    messages: &[Message<T>],
+) {
     for Message {
         numbers,
         input,

@@ -1,6 +1,8 @@
 //! Nanoseconds for coding and decoding a message: the library, plain C with two scramblers, and the
 //! second program; then where the library's time goes. Prints tables for docs/BENCHMARKS.md.
+//! With BEFORE set, the archive of that name beside the one of this tree.
 
+mod against;
 mod contestants;
 mod profile;
 mod sampler;
@@ -8,7 +10,9 @@ mod timing;
 
 use channel::Random;
 use contestants::{CODERS, Contestants, DECODERS, Message, assert_all_equal, to_code, to_decode};
+use std::env;
 use std::fs;
+use std::path::Path;
 use std::process::Command;
 use timing::{ROUNDS, better, measured};
 
@@ -26,21 +30,21 @@ fn messages<T>(a: u64, e: u64, make: Make<T>, random: &mut Random) -> Vec<Messag
 }
 
 /// The sizes of a line of the table, with messages of these sizes and their times.
-struct Line<T> {
+struct Line<T, const N: usize> {
     a: u64,
     e: u64,
     messages: Vec<Message<T>>,
-    times: [f64; 4],
+    times: [f64; N],
 }
 
-fn lines<T>(contestants: &Contestants<T>, make: Make<T>) -> Vec<Line<T>> {
+fn lines<T, const N: usize>(contestants: &Contestants<T, N>, make: Make<T>) -> Vec<Line<T, N>> {
     let mut random = Random::new(SEED);
     let sizes = PAYLOAD_SIZES.into_iter();
     let sizes = sizes.flat_map(|a| reference::CODED_LENGTHS.map(|e| (a, e)));
     let line = |(a, e)| {
         let messages = messages(a, e, make, &mut random);
         assert_all_equal(contestants, &messages);
-        let times = [f64::INFINITY; 4];
+        let times = [f64::INFINITY; N];
         Line {
             a,
             e,
@@ -51,13 +55,22 @@ fn lines<T>(contestants: &Contestants<T>, make: Make<T>) -> Vec<Line<T>> {
     sizes.map(line).collect()
 }
 
-/// Prints the table, and gives its lines.
-fn print_table<T>(title: &str, contestants: &Contestants<T>, make: Make<T>) -> Vec<Line<T>> {
-    let mut lines = lines(contestants, make);
-    for i in (0..PASSES).flat_map(|_| 0..PAYLOAD_SIZES.len() * reference::CODED_LENGTHS.len()) {
-        let line = &mut lines[i];
-        line.times = better(line.times, measured(contestants, &line.messages));
+/// The lines with the best times of all passes.
+fn timed_lines<T, const N: usize>(
+    contestants: &Contestants<T, N>,
+    mut lines: Vec<Line<T, N>>,
+) -> Vec<Line<T, N>> {
+    for _ in 0..PASSES {
+        for line in &mut lines {
+            line.times = better(line.times, measured(contestants, &line.messages));
+        }
     }
+    lines
+}
+
+/// Prints the table, and gives its lines.
+fn print_table<T>(title: &str, contestants: &Contestants<T, 4>, make: Make<T>) -> Vec<Line<T, 4>> {
+    let lines = timed_lines(contestants, lines(contestants, make));
     println!("\n### {title}\n");
     println!(
         "|   A |    E | library, ns | C/16, ns | C/1, ns | second, ns \
@@ -102,6 +115,9 @@ fn main() {
     println!(
         "best of {PASSES} x {ROUNDS} rounds in which the contestants take turns; all give the same bits"
     );
+    if let Some(before) = env::var_os("BEFORE") {
+        return against::print(Path::new(&before));
+    }
     println!("C/1 and C/16: plain C with 1 or 16 terms of the Gold sequence at a time");
     let coding = print_table("Coding", &CODERS, to_code);
     let decoding = print_table("Decoding", &DECODERS, to_decode);

@@ -18,7 +18,7 @@ struct Spent {
     steps: [f64; 3],
 }
 
-pub fn print(coding: &[Line<u8>], decoding: &[Line<i32>]) {
+pub fn print(coding: &[Line<u8, 4>], decoding: &[Line<i32, 4>]) {
     let coding = spent_by_length(CODERS[0], coding);
     let decoding = spent_by_length(DECODERS[0], decoding);
     // Both run the same scrambler; in coding it has the larger share.
@@ -27,7 +27,7 @@ pub fn print(coding: &[Line<u8>], decoding: &[Line<i32>]) {
     print_table("Where decoding spends its time", &decoding, start);
 }
 
-fn spent_by_length<T>(library: Contestant<T>, lines: &[Line<T>]) -> Vec<Spent> {
+fn spent_by_length<T>(library: Contestant<T>, lines: &[Line<T, 4>]) -> Vec<Spent> {
     let lines = lines.iter().filter(|line| line.a == A);
     lines.map(|line| spent(library, line)).collect()
 }
@@ -58,7 +58,7 @@ fn print_table(title: &str, spent: &[Spent], start: f64) {
     }
 }
 
-fn spent<T>(library: Contestant<T>, line: &Line<T>) -> Spent {
+fn spent<T>(library: Contestant<T>, line: &Line<T, 4>) -> Spent {
     let all = line.times[0];
     let calls = (SECONDS * 1e9 / all) as usize;
     let shares = sampler::shares(STEPS, || {

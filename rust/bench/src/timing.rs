@@ -31,9 +31,12 @@ fn calls_in_a_round<T>(contestant: Contestant<T>, messages: &[Message<T>]) -> us
 }
 
 /// Nanoseconds for a call in the best round, for each contestant.
-pub fn measured<T>(contestants: &Contestants<T>, messages: &[Message<T>]) -> [f64; 4] {
+pub fn measured<T, const N: usize>(
+    contestants: &Contestants<T, N>,
+    messages: &[Message<T>],
+) -> [f64; N] {
     let contestants = contestants.map(|c| (c, calls_in_a_round(c, messages)));
-    let mut best = [f64::INFINITY; 4];
+    let mut best = [f64::INFINITY; N];
     for _ in 0..ROUNDS {
         for (best, (contestant, calls)) in best.iter_mut().zip(contestants) {
             let time = timed(contestant, messages, calls).as_secs_f64();
@@ -44,6 +47,6 @@ pub fn measured<T>(contestants: &Contestants<T>, messages: &[Message<T>]) -> [f6
 }
 
 /// The best times of both.
-pub fn better(one: [f64; 4], other: [f64; 4]) -> [f64; 4] {
-    [0, 1, 2, 3].map(|i| one[i].min(other[i]))
+pub fn better<const N: usize>(one: [f64; N], other: [f64; N]) -> [f64; N] {
+    std::array::from_fn(|i| one[i].min(other[i]))
 }
