@@ -16,6 +16,13 @@ use Rattle.rate_matching.proofs.gather.Tie as tie
 room : (c : tie.Start) → length (c .args .row .now) ≤ 512
 room c = omega (arith, code-le (c .args .n) (c .pre .1))
 
+-- behind the selection that is undone, the start; behind the sub-blocks that are, the selection
+abbrev start : tie.After-undo-bit-selection → tie.Start
+start c = c .before .before
+
+abbrev selection-behind : tie.After-undo-sub-blocks → tie.After-undo-bit-selection
+selection-behind c = c .before .before .before .before .before
+
 array-borrow-prefix-y : tie.Need-array-borrow-prefix-y
 array-borrow-prefix-y c = room c
 
@@ -33,23 +40,25 @@ slice-aggregate-undo-sub-blocks c = search needs
 
 array-share-prefix-y : tie.Need-array-share-prefix-y
 array-share-prefix-y c =
-    let s = c .before .before .before .before in
-    made-le _ _ (room s) (s .pre .3) (s .args .kind) (s .args .soft .now) (c .before .before .undo-bit-selection .ensures) (pow-pos (s .args .n)) (s .pre .2) _
+    let b = c .before .before in
+    let s = start b in
+    made-le _ _ (room s) (s .pre .3) (s .args .kind) (s .args .soft .now) (b .undo-bit-selection .ensures) (pow-pos (s .args .n)) (s .pre .2) _
 
 slice-aggregate-undo-sub-blocks-2 : tie.Need-slice-aggregate-undo-sub-blocks-2
 slice-aggregate-undo-sub-blocks-2 c =
-    let s = c .before .before .before .before .before in
-    sym (made-length _ _ (room s) (s .pre .3) (s .args .kind) (s .args .soft .now) (c .before .before .before .undo-bit-selection .ensures) (pow-pos (s .args .n)) (s .pre .2) _)
+    let b = c .before .before .before in
+    let s = start b in
+    sym (made-length _ _ (room s) (s .pre .3) (s .args .kind) (s .args .soft .now) (b .undo-bit-selection .ensures) (pow-pos (s .args .n)) (s .pre .2) _)
 
 undo-sub-blocks-requires : tie.Need-undo-sub-blocks-requires
 unfolding P
 undo-sub-blocks-requires c κs =
-    let s = c .before .before .before .before .before .before in (
+    let b = c .before .before .before .before in
+    let s = start b in (
       refl,
       s .pre .0,
       s .pre .1,
-      made-length _ _ (room s) (s .pre .3) (s .args .kind) (s .args .soft .now) (c .before .before .before .before .undo-bit-selection .ensures) (pow-pos (s .args .n)) (s .pre .2) _
-          ∙ s .pre .3,
+      made-length _ _ (room s) (s .pre .3) (s .args .kind) (s .args .soft .now) (b .undo-bit-selection .ensures) (pow-pos (s .args .n)) (s .pre .2) _ ∙ s .pre .3,
       s .pre .3,
     )
 
@@ -58,9 +67,11 @@ same-length c = search needs
 
 returns : tie.Need-returns
 returns c =
-    let s = c .before .before .before .before .before .before .before .before in
-    c .before .undo-sub-blocks .ensures
-    ∙ made-row _ _ (room s) (s .pre .3) (s .args .kind) (s .args .soft .now) (c .before .before .before .before .before .before .undo-bit-selection .ensures) (pow-pos (s .args .n)) (s .pre .2) _
+    let r = c .before in
+    let b = selection-behind r in
+    let s = start b in
+    r .undo-sub-blocks .ensures
+    ∙ made-row _ _ (room s) (s .pre .3) (s .args .kind) (s .args .soft .now) (b .undo-bit-selection .ensures) (pow-pos (s .args .n)) (s .pre .2) _
 
 pub gather-spec : {M : Type 1} → statement M
 gather-spec =

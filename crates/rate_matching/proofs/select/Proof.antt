@@ -14,6 +14,13 @@ use borrow.Author.Needs.{needs}
 use Rattle.rate_matching.proofs.select.Statement.{statement}
 use Rattle.rate_matching.proofs.select.Tie as tie
 
+-- behind the sub-blocks, the place where they were asked for; behind the selection, the sub-blocks
+abbrev start : tie.After-sub-blocks → tie.Start
+start c = c .before .before .before .before .before
+
+abbrev blocks-behind : tie.After-bit-selection → tie.After-sub-blocks
+blocks-behind c = c .before .before .before .before
+
 slice-aggregate-sub-blocks : tie.Need-slice-aggregate-sub-blocks
 slice-aggregate-sub-blocks c = search needs
 
@@ -40,18 +47,21 @@ sub-blocks-requires c κs =
 
 array-share-prefix-y : tie.Need-array-share-prefix-y
 array-share-prefix-y c =
-    let s = c .before .before .before .before .before .before in
-    front-le (s .args .d .now) (c .before .sub-blocks .ensures) (s .pre .2) _
+    let b = c .before in
+    let s = start b in
+    front-le (s .args .d .now) (b .sub-blocks .ensures) (s .pre .2) _
 
 slice-aggregate-bit-selection : tie.Need-slice-aggregate-bit-selection
 slice-aggregate-bit-selection c =
-    let s = c .before .before .before .before .before .before .before in
-    s .pre .2 ∙ sym (front-length (s .args .d .now) (c .before .before .sub-blocks .ensures) (s .pre .2) _)
+    let b = c .before .before in
+    let s = start b in
+    s .pre .2 ∙ sym (front-length (s .args .d .now) (b .sub-blocks .ensures) (s .pre .2) _)
 
 bit-selection-requires : tie.Need-bit-selection-requires
 bit-selection-requires c κs =
-    let s = c .before .before .before .before .before .before .before .before in
-    let e = front-length (s .args .d .now) (c .before .before .before .sub-blocks .ensures) (s .pre .2) _ in
+    let b = c .before .before .before in
+    let s = start b in
+    let e = front-length (s .args .d .now) (b .sub-blocks .ensures) (s .pre .2) _ in
     subst⁻¹ (λ (m : ℕ). (0 < m) × Fits (s .args .kind) m (length (s .args .out .now))) e (pow-pos (s .args .n), s .pre .3)
 
 same-length : tie.Need-same-length
@@ -59,9 +69,10 @@ same-length c = search needs
 
 returns : tie.Need-returns
 returns c =
-    let s = c .before .before .before .before .before .before .before .before .before .before .before in
-    c .before .before .bit-selection .ensures
-    ∙ selects (s .args .d .now) (c .before .before .before .before .before .before .sub-blocks .ensures) (s .pre .2) _ (s .args .kind) (length (s .args .out .now))
+    let e = c .before .before in
+    let b = blocks-behind e in
+    let s = start b in
+    e .bit-selection .ensures ∙ selects (s .args .d .now) (b .sub-blocks .ensures) (s .pre .2) _ (s .args .kind) (length (s .args .out .now))
 
 pub select-spec : {M : Type 1} → statement M
 select-spec =
