@@ -3,13 +3,13 @@
 use Prim.Native.Nat.{ℕ, zero, suc, _+_, _≤_, _<_}
 use native.Mathlib.Omega.{arith}
 use mathlib.Core.Path.{_≡_, refl, sym, subst, ap, ap₂, _∙_}
-use mathlib.Core.Logic.{_↔_}
+use mathlib.Core.Logic.{_⊎_, inl, inr, _↔_}
 use mathlib.Core.Bool.{Bool, true, false, cond, not, _||_}
 use mathlib.Core.List.{List, [], _∷_}
 use lib.Dec.{T, eqb, ltb}
 use lib.IntN.{ℤ, pos, negsuc}
 use lib.ListN.{length, getD}
-use borrow.Author.Tests.{le-ltb, ltb-false}
+use borrow.Author.Tests.{le-ltb, ltb-true, ltb-false}
 use Rattle.nr.specs.declared.Numbers.{Numbers}
 use Rattle.nr.specs.Rows.{first}
 use Rattle.nr.specs.Answer.{firstOf, tests, Outcome, outcome}
@@ -18,7 +18,7 @@ use Rattle.nr.specs.Loopback.{badStrength, looped, Loops}
 use Rattle.nr.proofs.Tests.{neither}
 use Rattle.nr.proofs.Chains.{at-most}
 use Rattle.nr.proofs.Construction.{accepted}
-use Rattle.nr.proofs.Refusals.{longest, first-le, first-none, before-first, InTurn, in-turn, in-turn-none, carried, length-is, no-entry}
+use Rattle.nr.proofs.Refusals.{longest, first-le, first-none, before-first, FirstBad, first-bad, InTurn, in-turn, in-turn-none, carried, length-is, no-entry}
 use Rattle.nr.proofs.Promise1.{Untouched, untouched, outcome-number, outcome-place, place-below}
 
 -- a strength is not bad exactly if it is one of 1..127
@@ -104,6 +104,24 @@ module _ (s : Numbers) (payload : List ℕ) (strengths : List ℤ) (out : List �
       bounded : (b : Bool) → cond b byte (s .a + strength) ≤ length payload + (s .a + length strengths)
       bounded true = omega (arith, first-le badByte payload)
       bounded false = omega (arith, first-le badStrength strengths)
+
+  -- the place of the payload's first bad byte; if it has none, A more than that of the first bad strength
+  abbrev pub BadAt : ℕ → Type 0
+  BadAt at =
+      FirstBad badByte payload 0 at
+      ⊎ ((byte ≡ length payload) × ((at ≡ s .a + strength) × FirstBad badStrength strengths (pos 0) strength))
+
+  -- 6 carries it
+  pub looped-bad : looped s payload strengths out .number ≡ 6 → BadAt (looped s payload strengths out .place)
+  looped-bad e =
+      subst BadAt (sym (ap (λ (o : Outcome). o .place) looped-is ∙ outcome-place whole _ payload out (sym looped-number ∙ e)))
+      (go (ltb byte (length payload)) refl)
+    where
+      go : (b : Bool) → ltb byte (length payload) ≡ b → BadAt (cond b byte (s .a + strength))
+      go true l = let h = ltb-true byte (length payload) l in inl (first-bad badByte payload 0 (λ z. omega arith))
+      go false l =
+          let none = no-entry badByte payload .0 l in
+          inr (none, (refl, first-bad badStrength strengths (pos 0) (λ z. looped-in-turn .six .0 e .1 .1 .1 (none, z))))
 
   -- 0 exactly there
   pub looped-done : (looped s payload strengths out .number ≡ 0) ↔ Loops s payload strengths out

@@ -256,9 +256,12 @@ pub record FirstBad {X : Type 0} (bad : X → Bool) (input : List X) (d : X) (pl
   pub itself : bad (getD input place d) ≡ true
   pub before : (k : ℕ) → k < place → bad (getD input k d) ≡ false
 
-pub six-first : {X : Type 0} (A E : ℕ) (bad : X → Bool) (input : List X) (asked : ℕ) (out : List ℕ) (wanted : ℕ) (d : X)
-    → refusalOf A E bad input asked out wanted ≡ 6 → FirstBad bad input d (first bad input)
-six-first A E bad input asked out wanted d e =
-    let n = refused-in-turn A E bad input asked out wanted .six .0 e .1 .1 .1 in
+-- there is one where the place is not the input's length
+pub first-bad : {X : Type 0} (bad : X → Bool) (input : List X) (d : X) → (first bad input ≡ length input → ⊥) → FirstBad bad input d (first bad input)
+first-bad bad input d n =
     let l : first bad input < length input = omega (arith, first-le bad input, n) in
     record { inside = l; itself = at-first bad input d l; before = before-first bad input d }
+
+pub six-first : {X : Type 0} (A E : ℕ) (bad : X → Bool) (input : List X) (asked : ℕ) (out : List ℕ) (wanted : ℕ) (d : X)
+    → refusalOf A E bad input asked out wanted ≡ 6 → FirstBad bad input d (first bad input)
+six-first A E bad input asked out wanted d e = first-bad bad input d (refused-in-turn A E bad input asked out wanted .six .0 e .1 .1 .1)
