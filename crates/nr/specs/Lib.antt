@@ -16,3 +16,4 @@ pub mod Decoding
 pub mod Promise3
 pub mod Loopback
 pub mod Describing
+pub mod Searching

@@ -8,6 +8,14 @@ pub struct Numbers {
     pub n_id: u16,
 }
 
+// A candidate of a search: a message that may lie in `level` CCEs from CCE `first` on, its payload size A and its RNTI.
+pub struct Candidate {
+    pub first: u32,
+    pub level: u32,
+    pub a: u32,
+    pub rnti: u32,
+}
+
 // How E coded bits are made of N code bits (38.212 5.4.1).
 pub enum RateMatching {
     Repetition,
