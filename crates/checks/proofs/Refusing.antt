@@ -1,13 +1,19 @@
--- The tests of a call one after the other, and the coded lengths.
+-- The tests of a call one after the other, the coded lengths, and an answer's number.
 -- Assumes nothing.
 use Prim.Native.Nat.{ℕ, suc}
+use native.Mathlib.Omega.{arith}
 use mathlib.Core.Path.{_≡_, ap, sym, _∙_}
 use mathlib.Core.Logic.{_⊎_}
 use mathlib.Core.Bool.{Bool, true, false, cond}
-use mathlib.Core.List.{List, _∷_}
+use mathlib.Core.List.{List, [], _∷_}
 use lib.Dec.{not-T}
+use types.Run.{OneOf, miss}
+use denote.Enum.Declared.{tagOf}
+use Rattle.nr.proofs.Answer.{the-type}
+use Rattle.nr.specs.declared.Answer.{Answer}
+use Rattle.nr.specs.declared.Answer.the-variants.{Done, PayloadSize, CodedLength, TooManyBits, InputLength, OutputLength, BadEntry, ParityMismatch}
 use Rattle.nr.specs.Rows.{has}
-use Rattle.nr.specs.Answer.{lengths, firstOf}
+use Rattle.nr.specs.Answer.{lengths, firstOf, number}
 use Rattle.nr.proofs.Tests.{isn't}
 use Rattle.nr.proofs.Refusals.{which}
 
@@ -28,3 +34,21 @@ module _ {n i : ℕ} {t : Bool} {tests : List Bool} (l : Left n i (t ∷ tests))
 
   pub passes : t ≡ false → Left n (suc i) tests
   passes e = record { is = l .is ∙ ap (λ (b : Bool). cond b i (firstOf (suc i) tests)) e }
+
+-- ---- an answer's number
+
+-- an answer of the other variants has another number than 0
+pub refused : (r : Answer) → OneOf (1 ∷ 2 ∷ 3 ∷ 4 ∷ 5 ∷ 6 ∷ 7 ∷ []) (tagOf the-type r) → number r ≡ 0 → ⊥
+unfolding number
+refused Done t e = miss (1 ∷ 2 ∷ 3 ∷ 4 ∷ 5 ∷ 6 ∷ 7 ∷ []) 0 tt t
+refused PayloadSize t e = omega arith
+refused CodedLength t e = omega arith
+refused TooManyBits t e = omega arith
+refused InputLength t e = omega arith
+refused OutputLength t e = omega arith
+refused (BadEntry k) t e = omega arith
+refused ParityMismatch t e = omega arith
+
+pub done : (r : Answer) → r ≡ Done → number r ≡ 0
+unfolding number
+done r e = ap number e

@@ -7,7 +7,7 @@ ghost use Rattle.nr.specs.Coding.{badByte};
 ghost use Rattle.checks.specs.Checks.{sizeRefusal, Says, beyond};
 
 // Whether E is one of the coded lengths.
-fn is_coded_length(e: u64) -> bool
+pub fn is_coded_length(e: u64) -> bool
     ensures { λ r. ⌜ r ≡ has e lengths ⌝ }
 {
     match e {
@@ -55,17 +55,24 @@ pub fn first_bad(payload: &[u8]) -> usize
     i
 }
 
-// The place of the first value below `low` or above `high`, or the row's length.
+// Whether a value is below `low` or above `high`.
+pub fn is_outside(x: i32, low: i32, high: i32) -> bool
+    ensures { λ r. ⌜ r ≡ beyond low high x ⌝ }
+{
+    if x < low {
+        return true;
+    }
+    high < x
+}
+
+// The place of the first such value of a row, or the row's length.
 pub fn first_outside(row: &[i32], low: i32, high: i32) -> usize
     ensures { λ r. ⌜ r ≡ first (beyond low high) (now (row .entry)) ⌝ }
 {
     let mut i = 0;
     while i < row.len() {
         let x = row[i];
-        if x < low {
-            return i;
-        }
-        if high < x {
+        if is_outside(x, low, high) {
             return i;
         }
         i += 1;

@@ -15,7 +15,7 @@ use Rattle.nr.specs.Numbers.{K}
 use Rattle.nr.specs.Answer.{refusal, outcome, given}
 use Rattle.nr.specs.Parity.{maskRnti, parityMatches}
 use Rattle.nr.specs.Construction.{Layout, layout}
-use Rattle.nr.specs.Scrambling.{cInit}
+use Rattle.nr.specs.Scrambling.{gold, cInit}
 use Rattle.nr.specs.Decoding.{decided, maskedRow, received, orParity}
 use Rattle.nr.proofs.Rows.{length-entries}
 use Rattle.nr.proofs.Zip.{bits-entries}
@@ -36,7 +36,7 @@ pub record Back (s : Numbers) (soft : List ℤ) (out : List ℕ) : Type 0 where
   pub asked : Asked s out
   pub row : List ℕ
   pub kept : length row ≡ length {A = ℕ} (take (length out + 24) (replicate 164 0))
-  pub is : row ≡ maskedRow (layout (K (s .a)) (s .e)) (s .e) (cInit s) soft
+  pub is : row ≡ maskedRow (layout (K (s .a)) (s .e)) (s .e) (gold (cInit s) (s .e)) soft
 
 module _ {s : Numbers} {out : List ℕ} (asked : Asked s out) where
   -- K, by the output's length
@@ -52,10 +52,10 @@ module _ {s : Numbers} {soft : List ℤ} {out : List ℕ} (k : Back s soft out) 
 
   -- the decided bits, the row that they give and that without its RNTI
   abbrev u : List ℕ
-  u = decided l (s .e) (cInit s) soft
+  u = decided l (s .e) (gold (cInit s) (s .e)) soft
 
   abbrev c : List ℕ
-  c = maskedRow l (s .e) (cInit s) soft
+  c = maskedRow l (s .e) (gold (cInit s) (s .e)) soft
 
   abbrev b : List ℕ
   b = received l (s .e) (s .rnti) (cInit s) soft

@@ -10,13 +10,10 @@ use mathlib.Core.List.{List, [], _∷_, _++_}
 use lib.Dec.{eqb, ltb}
 use lib.IntN.{ℤ, pos, natAbs}
 use lib.ListN.{length, getD, take, List·getD-eq-default}
-use types.Run.{OneOf, miss}
-use denote.Enum.Declared.{tagOf}
 use borrow.Author.Tests.{lt-ltb, le-ltb, ltb-false, ne-eqb}
-use Rattle.nr.proofs.Answer.{the-type}
 use Rattle.nr.specs.declared.Numbers.{Numbers}
 use Rattle.nr.specs.declared.Answer.{Answer}
-use Rattle.nr.specs.declared.Answer.the-variants.{Done, PayloadSize, CodedLength, TooManyBits, InputLength, OutputLength, BadEntry, ParityMismatch}
+use Rattle.nr.specs.declared.Answer.the-variants.{Done, BadEntry, ParityMismatch}
 use Rattle.nr.specs.Rows.{first, Bits, Within}
 use Rattle.nr.specs.Numbers.{K}
 use Rattle.nr.specs.Answer.{firstOf, tests, number, placeOf, refusalOf, outcome, given}
@@ -29,18 +26,6 @@ use Rattle.nr.proofs.Chains.{ahead, behind, at-most}
 use Rattle.nr.proofs.Refusals.{Passes, passes-exactly, before-first}
 use Rattle.checks.specs.Checks.{sizeRefusal, Says}
 use Rattle.dci.specs.Judged.{judged}
-
--- an answer of the other variants has another number than 0
-pub refused : (r : Answer) → OneOf (1 ∷ 2 ∷ 3 ∷ 4 ∷ 5 ∷ 6 ∷ 7 ∷ []) (tagOf the-type r) → number r ≡ 0 → ⊥
-unfolding number
-refused Done t e = miss (1 ∷ 2 ∷ 3 ∷ 4 ∷ 5 ∷ 6 ∷ 7 ∷ []) 0 tt t
-refused PayloadSize t e = omega arith
-refused CodedLength t e = omega arith
-refused TooManyBits t e = omega arith
-refused InputLength t e = omega arith
-refused OutputLength t e = omega arith
-refused (BadEntry k) t e = omega arith
-refused ParityMismatch t e = omega arith
 
 -- ---- a row of five tests, and a last one behind them
 
@@ -193,6 +178,13 @@ module _ (s : Numbers) (soft : List ℤ) (out : List ℕ) where
   unfolding decoding decodingFor
   decoding-is = refl
 
+  -- where all has been checked the parity decides
+  pub judged-decoding : Passes (s .a) (s .e) badSoft soft (s .e) out (s .a) → judged s soft out ≡ decoding s soft out
+  judged-decoding p =
+      placeless (s .a) b (take (s .a) b) out 0 (first badSoft soft)
+      ∙ ap (λ (i : ℕ). outcome (orParity i (s .a) b) (first badSoft soft) (take (s .a) b) out) (sym (passes-exactly (s .a) (s .e) badSoft soft (s .e) out (s .a) .1 p))
+      ∙ sym decoding-is
+
   module _ (r : Answer) (y : Says (sizeRefusal (s .a) (s .e) (length soft) (s .e) (length out) (s .a)) r) where
     pub decoding-sizes : (number r ≡ 0 → ⊥) → given r out ≡ decoding s soft out
     decoding-sizes n =
@@ -209,9 +201,5 @@ module _ (s : Numbers) (soft : List ℤ) (out : List ℕ) where
         pub decoding-passes : Passes (s .a) (s .e) badSoft soft (s .e) out (s .a)
         decoding-passes = passes badSoft (s .a) (s .e) soft (s .e) out (s .a) r y e l
 
-        -- the parity decides
         pub decoding-judged : (r′ : Answer) (new : List ℕ) → given r′ new ≡ judged s soft out → given r′ new ≡ decoding s soft out
-        decoding-judged r′ new q =
-            q ∙ placeless (s .a) b (take (s .a) b) out 0 (first badSoft soft)
-            ∙ ap (λ (i : ℕ). outcome (orParity i (s .a) b) (first badSoft soft) (take (s .a) b) out) (sym (none badSoft (s .a) (s .e) soft (s .e) out (s .a) r y e l))
-            ∙ sym decoding-is
+        decoding-judged r′ new q = q ∙ judged-decoding decoding-passes

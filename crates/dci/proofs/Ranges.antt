@@ -17,7 +17,7 @@ first-same : {X : Type 0} (f g : X → Bool) → ((x : X) → f x ≡ g x) → (
 first-same f g e [] = refl
 first-same f g e (x ∷ row) = ap₂ (λ (b : Bool) (k : ℕ). cond b 0 (suc k)) (e x) (first-same f g e row)
 
-soft-beyond : (x : ℤ) → beyond (negsuc 126) (pos 127) x ≡ badSoft x
+pub soft-beyond : (x : ℤ) → beyond (negsuc 126) (pos 127) x ≡ badSoft x
 unfolding badSoft
 soft-beyond (pos n) = refl
 soft-beyond (negsuc n) = go (ltb 126 n) refl

@@ -1,4 +1,5 @@
 // The downlink control message: from payload bits to E scrambled bits, and from E soft values back to the payload.
+use construction::Layout;
 use nr::Answer;
 use nr::Numbers;
 use nr::RateMatching;
@@ -9,10 +10,11 @@ ghost use Rattle.nr.specs.Rows.{Bits, Within};
 ghost use Rattle.nr.specs.Numbers.{K};
 ghost use Rattle.nr.specs.Answer.{refusal, outcome, given};
 ghost use Rattle.nr.specs.Construction.{layout};
-ghost use Rattle.nr.specs.Scrambling.{cInit};
+ghost use Rattle.nr.specs.Scrambling.{gold, cInit};
 ghost use Rattle.nr.specs.Coding.{coded, coding};
 ghost use Rattle.nr.specs.Decoding.{maskedRow, decoding};
 ghost use Rattle.nr.specs.Describing.{describing};
+ghost use Rattle.construction.specs.Shapes.{Lays};
 ghost use Rattle.dci.specs.Judged.{judged};
 
 // The E scrambled bits of a payload of A bits.
@@ -53,18 +55,18 @@ pub struct Decoded {
     pub answer: Answer,
 }
 
-// The row of payload and parity that E soft values give, the RNTI still on it.
-fn read(numbers: Numbers, soft: &[i32], row: &mut [u8])
+// The row of payload and parity that E soft values give, the RNTI still on it. The code for A and E and the scrambling sequence
+// are handed in: a caller with many rows makes them once.
+fn read(numbers: Numbers, code: Layout, sequence: &[u8], soft: &[i32], row: &mut [u8])
     requires { ⌜ (refusal (numbers .a) (numbers .e) ≡ 0) × (length (now soft) ≡ numbers .e) × (length (now row) ≡ K (numbers .a)) × Within 127 (now soft) ⌝ }
-    ensures { λ _. ⌜ now (row .exit) ≡ maskedRow (layout (K (numbers .a)) (numbers .e)) (numbers .e) (cInit numbers) (now (soft .entry)) ⌝ }
+    requires { ⌜ Lays (layout (K (numbers .a)) (numbers .e)) code × (length (now sequence) ≡ numbers .e) ⌝ }
+    ensures { λ _. ⌜ now (row .exit) ≡ maskedRow (layout (K (numbers .a)) (numbers .e)) (numbers .e) (now (sequence .entry)) (now (soft .entry)) ⌝ }
 {
-    let l = construction::construct(numbers.a, numbers.e);
-    let n = l.n;
-    let kind = l.kind;
-    let positions = l.positions;
+    let n = code.n;
+    let kind = code.kind;
+    let positions = code.positions;
     let k = row.len();
-    let start = numbers.n_id as u32;
-    receiver::receive(n, kind, &positions[..k], start, soft, row);
+    receiver::receive(n, kind, &positions[..k], sequence, soft, row);
 }
 
 // The payload with 0 where the parity matched; else 7, and the output stays as it is.
@@ -79,17 +81,37 @@ fn give(matched: bool, payload: &[u8], out: &mut [u8]) -> Answer
     Answer::Done
 }
 
-// The payload that the soft values hold, if its parity matches.
-fn accept(numbers: Numbers, soft: &[i32], out: &mut [u8]) -> Answer
+// The payload that the soft values hold, if its parity matches. The caller has made every check, the code and the sequence.
+pub fn accept(
+    numbers: Numbers,
+    code: Layout,
+    sequence: &[u8],
+    soft: &[i32],
+    out: &mut [u8],
+) -> Answer
     requires { ⌜ (refusal (numbers .a) (numbers .e) ≡ 0) × (length (now soft) ≡ numbers .e) × (length (now out) ≡ numbers .a) × Within 127 (now soft) ⌝ }
+    requires { ⌜ Lays (layout (K (numbers .a)) (numbers .e)) code × (now sequence ≡ gold (cInit numbers) (numbers .e)) ⌝ }
     ensures { λ r. ⌜ given r (now (out .exit)) ≡ judged numbers (now (soft .entry)) (now (out .entry)) ⌝ }
 {
     let size = out.len();
     let k = size + 24;
     let mut row = [0u8; 164];
-    read(numbers, soft, &mut row[..k]);
+    read(numbers, code, sequence, soft, &mut row[..k]);
     let matched = parity::matches(&row[..k], numbers.rnti);
     give(matched, &row[..size], out)
+}
+
+// The same, with a code and a sequence of its own.
+fn fresh(numbers: Numbers, soft: &[i32], out: &mut [u8]) -> Answer
+    requires { ⌜ (refusal (numbers .a) (numbers .e) ≡ 0) × (length (now soft) ≡ numbers .e) × (length (now out) ≡ numbers .a) × Within 127 (now soft) ⌝ }
+    ensures { λ r. ⌜ given r (now (out .exit)) ≡ judged numbers (now (soft .entry)) (now (out .entry)) ⌝ }
+{
+    let l = construction::construct(numbers.a, numbers.e);
+    let e = soft.len();
+    let start = numbers.n_id as u32;
+    let mut terms = [0u8; 1728];
+    scrambling::sequence(start, &mut terms[..e]);
+    accept(numbers, l, &terms[..e], soft, out)
 }
 
 // Decodes E soft values into a payload of A bits, or answers with the first number of 1 to 7 that applies and leaves the output
@@ -109,7 +131,7 @@ pub fn decode(numbers: Numbers, soft: &[i32], out: &mut [u8]) -> Decoded
             answer: Answer::BadEntry(bad),
         };
     }
-    let answer = accept(numbers, soft, out);
+    let answer = fresh(numbers, soft, out);
     Decoded { answer }
 }
 

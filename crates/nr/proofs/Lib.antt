@@ -22,6 +22,8 @@ pub mod Promise1
 pub mod Promise3
 pub mod Loopback
 pub mod Describing
+pub mod Searching
 pub mod Kronecker
 pub mod MarkedCases
 pub mod Pins
+pub mod SearchCases

@@ -15,7 +15,7 @@ use Rattle.nr.specs.Rows.{first}
 use Rattle.nr.specs.Answer.{firstOf, tests, Outcome, outcome}
 use Rattle.nr.specs.Coding.{badByte}
 use Rattle.nr.specs.Loopback.{badStrength, looped, Loops}
-use Rattle.nr.proofs.Tests.{neither}
+use Rattle.nr.proofs.Tests.{both-fail}
 use Rattle.nr.proofs.Chains.{at-most}
 use Rattle.nr.proofs.Construction.{accepted}
 use Rattle.nr.proofs.Refusals.{longest, first-le, first-none, before-first, FirstBad, first-bad, InTurn, in-turn, in-turn-none, carried, length-is, no-entry}
@@ -62,10 +62,6 @@ module _ (s : Numbers) (payload : List ℕ) (strengths : List ℤ) (out : List �
   looped-number : looped s payload strengths out .number ≡ whole
   looped-number = ap (λ (o : Outcome). o .number) looped-is ∙ outcome-number whole _ payload out
 
-  -- both of two tests fail exactly where both say so
-  both : {a b : Bool} {P Q : Type 0} → ((a ≡ false) ↔ P) → ((b ≡ false) ↔ Q) → (a || b ≡ false) ↔ (P × Q)
-  both {a} {b} p q = (λ e. let n = neither a b .0 e in (p .0 (n .0), q .0 (n .1)), λ h. neither a b .1 (p .1 (h .0), q .1 (h .1)))
-
   abbrev Inputs : Type 0
   Inputs = (length payload ≡ s .a) × (length strengths ≡ s .e)
 
@@ -73,10 +69,10 @@ module _ (s : Numbers) (payload : List ℕ) (strengths : List ℤ) (out : List �
   Entries = (byte ≡ length payload) × (strength ≡ length strengths)
 
   inputs-are : (inputs ≡ false) ↔ Inputs
-  inputs-are = both (length-is (length payload) (s .a)) (length-is (length strengths) (s .e))
+  inputs-are = both-fail (length-is (length payload) (s .a)) (length-is (length strengths) (s .e))
 
   none-bad : (bad ≡ false) ↔ Entries
-  none-bad = both (no-entry badByte payload) (no-entry badStrength strengths)
+  none-bad = both-fail (no-entry badByte payload) (no-entry badStrength strengths)
 
   -- each of 1 to 6 is given exactly where its test applies and none before it
   pub looped-in-turn : InTurn (s .a) (s .e) Inputs (length out ≡ s .a) Entries (looped s payload strengths out .number)

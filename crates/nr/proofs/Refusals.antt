@@ -1,7 +1,9 @@
 -- When a call is refused: the pairs that 1 to 3 let pass, the inputs that 4 to 6 do, and the place that 6 carries, exactly.
+-- With the first entry of a row, and the first of the numbers below n, that passes a test.
 -- Assumes nothing.
 use Prim.Native.Nat.{ℕ, zero, suc, _+_, _≤_, _<_}
-use native.Mathlib.Nat.{not-suc-le-zero, le-of-suc-le-suc}
+use native.Mathlib.Nat.{not-suc-le-zero, le-of-suc-le-suc, lt-of-not-le}
+use native.Mathlib.Decide.{decLe}
 use native.Mathlib.Omega.{arith}
 use native.Mathlib.Numerals.{add-one}
 use mathlib.Core.Path.{_≡_, refl, sym, ap, _∙_}
@@ -12,10 +14,11 @@ use lib.Dec.{T, eqb, ltb}
 use lib.ListN.{length, getD, drop}
 use lib.Seq.{drop-cons}
 use borrow.Author.Tests.{lt-ltb, le-ltb, ltb-true, ltb-false, eq-eqb, eqb-true, not-false}
-use Rattle.nr.specs.Rows.{has, first}
+use Rattle.nr.specs.Rows.{count, has, first}
 use Rattle.nr.specs.Numbers.{K}
 use Rattle.nr.specs.Answer.{lengths, firstOf, outside, tests, refusal, refusalOf}
-use Rattle.nr.proofs.Tests.{is, holds, clash, or-right, either, neither, cases}
+use Rattle.nr.proofs.Tests.{is, holds, clash, or-right, either, neither, one-of, has-one}
+use Rattle.nr.proofs.Rows.{length-count, getD-count}
 use Rattle.nr.proofs.Chains.{at-most, applies, given-by, later-none, later}
 use Rattle.nr.proofs.Construction.{Sized, accepted}
 
@@ -33,26 +36,10 @@ pub record Pair (A E : ℕ) : Type 0 where
   pub room : A + 24 ≤ E
 
 pub listed : (E : ℕ) → Listed E → has E lengths ≡ true
-listed E (inl e) = ap (λ (x : ℕ). has x lengths) e
-listed E (inr (inl e)) = ap (λ (x : ℕ). has x lengths) e
-listed E (inr (inr (inl e))) = ap (λ (x : ℕ). has x lengths) e
-listed E (inr (inr (inr (inl e)))) = ap (λ (x : ℕ). has x lengths) e
-listed E (inr (inr (inr (inr e)))) = ap (λ (x : ℕ). has x lengths) e
+listed E l = is (has E lengths) (has-one E lengths l)
 
 pub which : (E : ℕ) → T (has E lengths) → Listed E
-which E t = elim (cases E 108 (216 ∷ 432 ∷ 864 ∷ 1728 ∷ []) t) [
-  | inl e ↦ inl e
-  | inr t ↦ inr (elim (cases E 216 (432 ∷ 864 ∷ 1728 ∷ []) t) [
-    | inl e ↦ inl e
-    | inr t ↦ inr (elim (cases E 432 (864 ∷ 1728 ∷ []) t) [
-      | inl e ↦ inl e
-      | inr t ↦ inr (elim (cases E 864 (1728 ∷ []) t) [
-        | inl e ↦ inl e
-        | inr t ↦ inr (elim (cases E 1728 [] t) [ inl e ↦ e | inr t ↦ absurd t ])
-      ])
-    ])
-  ])
-]
+which E t = one-of E lengths t
 
 pub longest : (E : ℕ) → T (has E lengths) → E ≤ 1728
 longest E t = elim (which E t) [
@@ -118,6 +105,35 @@ module _ {X : Type 0} (bad : X → Bool) where
       go true h = omega arith
       go false h = omega arith
 
+-- of the numbers below n, i is the first that passes
+pub record FirstBelow (passes : ℕ → Bool) (n i : ℕ) : Type 0 where
+  pub below : i < n
+  pub itself : passes i ≡ true
+  pub before : (j : ℕ) → j < i → passes j ≡ false
+
+pub first-unique : {passes : ℕ → Bool} {n i j : ℕ} → FirstBelow passes n i → FirstBelow passes n j → i ≡ j
+first-unique {i = i} {j = j} f g = elim (decLe i j) [
+  | yes l ↦ elim (decLe j i) [ yes m ↦ omega arith | no m ↦ clash (f .itself) (g .before i (lt-of-not-le m)) ]
+  | no l ↦ clash (g .itself) (f .before j (lt-of-not-le l))
+]
+
+module _ (passes : ℕ → Bool) (n : ℕ) where
+  abbrev place : ℕ
+  place = first passes (count 0 n)
+
+  at-place : (i : ℕ) → i < n → passes (getD (count 0 n) i 0) ≡ passes i
+  at-place i l = ap passes (getD-count 0 n i 0 l ∙ omega arith)
+
+  pub first-below : place < n → FirstBelow passes n place
+  first-below l = record {
+    below = l;
+    itself = sym (at-place place l) ∙ at-first passes (count 0 n) 0 (omega (arith, length-count 0 n));
+    before = λ j h. sym (at-place j (omega arith)) ∙ before-first passes (count 0 n) 0 j h;
+  }
+
+  pub none-below : n ≤ place → (i : ℕ) → i < n → passes i ≡ false
+  none-below l i h = sym (at-place i h) ∙ before-first passes (count 0 n) 0 i (omega arith)
+
 -- ---- 1 to 6, in turn
 
 -- i is the number of the first of these that applies: A is outside 12..140; E is none of the lengths; A + 24 is more than E; not
@@ -131,7 +147,7 @@ pub record InTurn (A E : ℕ) (Input Output Entries : Type 0) (i : ℕ) : Type 0
   pub six : (i ≡ 6) ↔ ((refusal A E ≡ 0) × (Input × (Output × (Entries → ⊥))))
 
 -- a test that fails exactly where P holds applies exactly where it does not
-denied : (t : Bool) {P : Type 0} → ((t ≡ false) ↔ P) → (t ≡ true) ↔ (P → ⊥)
+pub denied : (t : Bool) {P : Type 0} → ((t ≡ false) ↔ P) → (t ≡ true) ↔ (P → ⊥)
 denied true d = (λ e p. clash refl (d .1 p), λ n. refl)
 denied false d = (λ e. clash e refl, λ n. absurd (n (d .0 refl)))
 

@@ -102,13 +102,13 @@ module _ (l : Layout) (E rnti start : ℕ) where
   pub length-received : (soft : List ℤ) → 16 ≤ length (l .positions) → length (received l E rnti start soft) ≡ length (l .positions)
   unfolding received
   length-received soft h =
-      let row : List ℕ = entries (l .positions) (decided l E start soft) in
-      let e : length (deinterleave row) ≡ length (l .positions) = length-deinterleave row ∙ length-entries (l .positions) (decided l E start soft) in
+      let row : List ℕ = entries (l .positions) (decided l E (gold start E) soft) in
+      let e : length (deinterleave row) ≡ length (l .positions) = length-deinterleave row ∙ length-entries (l .positions) (decided l E (gold start E) soft) in
       length-maskRnti rnti (deinterleave row) (omega arith) ∙ e
 
   pub bits-received : (soft : List ℤ) → Bits (received l E rnti start soft)
   unfolding received
-  bits-received soft = bits-maskRnti rnti (deinterleave (entries (l .positions) (decided l E start soft)))
+  bits-received soft = bits-maskRnti rnti (deinterleave (entries (l .positions) (decided l E (gold start E) soft)))
 
 -- ---- the round trip
 
@@ -178,7 +178,7 @@ module _ (k : ℕ) (kind : RateMatching) (positions : List ℕ) (E rnti start : 
         go false e = refl
 
     -- the decided bits are the placed ones
-    decides : decided l E start soft ≡ u
+    decides : decided l E (gold start E) soft ≡ u
     unfolding decided unsent
     decides =
         noiseless (k + 5) (marks N positions) u (punctured kind N E) (codeRow kind N E (descramble (gold start E) soft))

@@ -7,12 +7,12 @@ use native.Mathlib.Omega.{arith}
 use mathlib.Core.Path.{_≡_, refl, sym, ap, ap₂, _∙_}
 use mathlib.Core.List.{_++_}
 use lib.Bits.{bitXor, xor-shr}
-use lib.ListN.{length, getD}
+use lib.ListN.{length, getD, take, replicate}
 use lib.Pow.{pow-pos, pow-add, shr-shr, mod-pow-add}
-use Rattle.nr.specs.Rows.{bit, xor, Bits}
+use Rattle.nr.specs.Rows.{bit, xor, xors, Bits}
 use Rattle.nr.specs.Scrambling.{next1, next2, shift, step1, step2, after, terms, gold}
 use Rattle.nr.proofs.Words.{bit-xor, bit-shr}
-use Rattle.nr.proofs.Zip.{cons}
+use Rattle.nr.proofs.Zip.{cons, xors-comm, xors-zeros}
 
 -- ---- E bits
 
@@ -34,6 +34,10 @@ length-gold start E = length-terms E _ _
 pub bits-gold : (start E : ℕ) → Bits (gold start E)
 unfolding gold
 bits-gold start E = bits-terms E _ _
+
+-- added to a row of zeros it stands there
+pub zeros-gold : (start E : ℕ) → xors (replicate E 0) (gold start E) ≡ gold start E
+zeros-gold start E = xors-comm (replicate E 0) (gold start E) ∙ xors-zeros E (gold start E) (length-gold start E) (bits-gold start E)
 
 -- ---- a register makes the terms of its sequence one after the other
 
@@ -210,6 +214,17 @@ pub terms-append : (m k s1 s2 : ℕ) → terms (m + k) s1 s2 ≡ terms m s1 s2 +
 unfolding terms after
 terms-append zero k s1 s2 = ap (λ (n : ℕ). terms n s1 s2) (zero-add k)
 terms-append (suc m) k s1 s2 = ap (λ (n : ℕ). terms n s1 s2) (suc-add m k) ∙ cons refl (terms-append m k (step1 s1) (step2 s2))
+
+-- the front of a sequence is the shorter one
+pub take-terms : (k n s1 s2 : ℕ) → k ≤ n → take k (terms n s1 s2) ≡ terms k s1 s2
+unfolding terms
+take-terms zero n s1 s2 h = refl
+take-terms (suc k) zero s1 s2 h = absurd (not-suc-le-zero h)
+take-terms (suc k) (suc n) s1 s2 h = cons refl (take-terms k n (step1 s1) (step2 s2) (le-of-suc-le-suc h))
+
+pub take-gold : (start k n : ℕ) → k ≤ n → take k (gold start n) ≡ gold start k
+unfolding gold
+take-gold start k n h = take-terms k n _ _ h
 
 pub terms-at : (E s1 s2 k : ℕ) → k < E → getD (terms E s1 s2) k 0 ≡ (x1 s1 k + x2 s2 k) % 2
 unfolding terms after

@@ -72,6 +72,20 @@ pub neither : (a b : Bool) → (a || b ≡ false) ↔ ((a ≡ false) × (b ≡ f
 neither true b = (λ e. clash refl e, λ n. n .0)
 neither false b = (λ e. (refl, e), λ n. n .1)
 
+-- both of two tests pass exactly where each does
+pub both-pass : (a b : Bool) → (a && b ≡ true) ↔ ((a ≡ true) × (b ≡ true))
+both-pass true b = (λ e. (refl, e), λ p. p .1)
+both-pass false b = (λ e. clash e refl, λ p. p .0)
+
+-- and both fail exactly where each says so
+pub both-fail : {a b : Bool} {P Q : Type 0} → ((a ≡ false) ↔ P) → ((b ≡ false) ↔ Q) → (a || b ≡ false) ↔ (P × Q)
+both-fail {a} {b} p q = (λ e. let n = neither a b .0 e in (p .0 (n .0), q .0 (n .1)), λ h. neither a b .1 (p .1 (h .0), q .1 (h .1)))
+
+-- a test that cannot pass fails
+pub fails : (b : Bool) → (b ≡ true → ⊥) → b ≡ false
+fails true n = absurd (n refl)
+fails false n = refl
+
 -- ---- entries
 
 pub here : (x : ℕ) (xs : List ℕ) → T (has x (x ∷ xs))
@@ -86,6 +100,23 @@ cases x y xs h = go (eqb x y) refl h
     go : (c : Bool) → eqb x y ≡ c → T (c || has x xs) → (x ≡ y) ⊎ T (has x xs)
     go true q h = inl (eqb→eq x y (holds q))
     go false q h = inr h
+
+-- x is one of them, written out
+abbrev pub OneOf : ℕ → List ℕ → Type 0
+OneOf x [] = ⊥
+OneOf x (y ∷ []) = x ≡ y
+OneOf x (y ∷ z ∷ zs) = (x ≡ y) ⊎ OneOf x (z ∷ zs)
+
+pub one-of : (x : ℕ) (xs : List ℕ) → T (has x xs) → OneOf x xs
+one-of x [] h = absurd h
+one-of x (y ∷ []) h = elim (cases x y [] h) [ inl e ↦ e | inr u ↦ absurd u ]
+one-of x (y ∷ z ∷ zs) h = elim (cases x y (z ∷ zs) h) [ inl e ↦ inl e | inr u ↦ inr (one-of x (z ∷ zs) u) ]
+
+pub has-one : (x : ℕ) (xs : List ℕ) → OneOf x xs → T (has x xs)
+has-one x [] h = absurd h
+has-one x (y ∷ []) e = subst (λ (z : ℕ). T (has x (z ∷ []))) e (here x [])
+has-one x (y ∷ z ∷ zs) (inl e) = subst (λ (w : ℕ). T (has x (w ∷ z ∷ zs))) e (here x (z ∷ zs))
+has-one x (y ∷ z ∷ zs) (inr u) = there x y (z ∷ zs) (has-one x (z ∷ zs) u)
 
 -- what a passed test says of an entry
 pub all-has : (f : ℕ → Bool) (xs : List ℕ) → T (all f xs) → (x : ℕ) → T (has x xs) → T (f x)

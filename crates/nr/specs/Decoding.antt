@@ -16,19 +16,19 @@ use Rattle.nr.specs.Construction.{Layout, layout}
 use Rattle.nr.specs.Scrambling.{gold, cInit}
 use Rattle.nr.specs.SuccessiveDecoder.{descramble, codeRow, successive, marks}
 
--- the decided bits, in order of position, of a row of E soft values
-unfoldable pub decided : Layout → ℕ → ℕ → List ℤ → List ℕ
-decided l E start soft =
+-- the decided bits, in order of position, of a row of E soft values that the sequence c has scrambled
+unfoldable pub decided : Layout → ℕ → List ℕ → List ℤ → List ℕ
+decided l E c soft =
     successive (l .n) (marks (2 ^ l .n) (l .positions))
-    (codeRow (l .kind) (2 ^ l .n) E (descramble (gold start E) soft))
+    (codeRow (l .kind) (2 ^ l .n) E (descramble c soft))
 
 -- the row of payload and parity as it was sent: the interleaver undone, the RNTI still on it
-abbrev pub maskedRow : Layout → ℕ → ℕ → List ℤ → List ℕ
-maskedRow l E start soft = deinterleave (entries (l .positions) (decided l E start soft))
+abbrev pub maskedRow : Layout → ℕ → List ℕ → List ℤ → List ℕ
+maskedRow l E c soft = deinterleave (entries (l .positions) (decided l E c soft))
 
 -- the row b of payload and parity: the RNTI added again
 unfoldable pub received : Layout → ℕ → ℕ → ℕ → List ℤ → List ℕ
-received l E rnti start soft = maskRnti rnti (maskedRow l E start soft)
+received l E rnti start soft = maskRnti rnti (maskedRow l E (gold start E) soft)
 
 -- number 7 where the parity does not match, after the numbers before it
 unfoldable pub orParity : ℕ → ℕ → List ℕ → ℕ

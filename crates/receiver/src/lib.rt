@@ -1,11 +1,10 @@
 // A code word received: from E soft values to the row of payload and parity, for a code that is given by n, the kind of rate
-// matching and its information positions.
+// matching and its information positions, and for the sequence that the row was scrambled with.
 use nr::RateMatching;
 ghost use mathlib.Core.Path.{_≡_};
-ghost use Prim.Native.Nat.{_≤_, _<_, _^_};
+ghost use Prim.Native.Nat.{_≤_, _^_};
 ghost use lib.ListN.{length, replicate};
 ghost use Rattle.nr.specs.Rows.{entries, Within};
-ghost use Rattle.nr.specs.Scrambling.{gold};
 ghost use Rattle.nr.specs.SuccessiveDecoder.{descramble, codeRow, successive, marks};
 ghost use Rattle.nr.specs.Decoding.{decided, maskedRow};
 ghost use Rattle.nr.specs.RateMatching.{Fits};
@@ -36,14 +35,14 @@ fn pick(row: &[u8], positions: &[u16], bits: &mut [u8])
 }
 
 // The N values by code position: scrambling and rate matching undone.
-fn code_row(n: usize, kind: RateMatching, start: u32, soft: &[i32], row: &mut [i32])
+fn code_row(n: usize, kind: RateMatching, sequence: &[u8], soft: &[i32], row: &mut [i32])
     requires { ⌜ (5 ≤ n) × (n ≤ 9) × Fits kind (2 ^ n) (length (now soft)) × (length (now soft) ≤ 1728) × Within 127 (now soft) ⌝ }
-    requires { ⌜ (start < 2 ^ 31) × (length (now row) ≡ 2 ^ n) ⌝ }
-    ensures { λ _. ⌜ now (row .exit) ≡ codeRow kind (2 ^ n) (length (now (soft .entry))) (descramble (gold start (length (now (soft .entry)))) (now (soft .entry))) ⌝ }
+    requires { ⌜ (length (now sequence) ≡ length (now soft)) × (length (now row) ≡ 2 ^ n) ⌝ }
+    ensures { λ _. ⌜ now (row .exit) ≡ codeRow kind (2 ^ n) (length (now (soft .entry))) (descramble (now (sequence .entry)) (now (soft .entry))) ⌝ }
 {
     let e = soft.len();
     let mut sent = [0i32; 1728];
-    scrambling::descramble(start, soft, &mut sent[..e]);
+    scrambling::negate(sequence, soft, &mut sent[..e]);
     rate_matching::gather(kind, n, &sent[..e], row);
 }
 
@@ -60,14 +59,21 @@ fn decide_row(n: usize, positions: &[u16], work: &mut [i32; 1024], est: &mut [u8
 }
 
 // The decided bits of all N positions.
-fn decide(n: usize, kind: RateMatching, positions: &[u16], start: u32, soft: &[i32], est: &mut [u8])
+fn decide(
+    n: usize,
+    kind: RateMatching,
+    positions: &[u16],
+    sequence: &[u8],
+    soft: &[i32],
+    est: &mut [u8],
+)
     requires { ⌜ (5 ≤ n) × (n ≤ 9) × Fits kind (2 ^ n) (length (now soft)) × (length (now soft) ≤ 1728) × Within 127 (now soft) ⌝ }
-    requires { ⌜ (start < 2 ^ 31) × Positions (2 ^ n) (now positions) × (length (now est) ≡ 2 ^ n) ⌝ }
-    ensures { λ _. ⌜ now (est .exit) ≡ decided (code n kind (now (positions .entry))) (length (now (soft .entry))) start (now (soft .entry)) ⌝ }
+    requires { ⌜ (length (now sequence) ≡ length (now soft)) × Positions (2 ^ n) (now positions) × (length (now est) ≡ 2 ^ n) ⌝ }
+    ensures { λ _. ⌜ now (est .exit) ≡ decided (code n kind (now (positions .entry))) (length (now (soft .entry))) (now (sequence .entry)) (now (soft .entry)) ⌝ }
 {
     let len = est.len();
     let mut work = [0i32; 1024];
-    code_row(n, kind, start, soft, &mut work[len..2 * len]);
+    code_row(n, kind, sequence, soft, &mut work[len..2 * len]);
     decide_row(n, positions, &mut work, est);
 }
 
@@ -76,18 +82,18 @@ pub fn receive(
     n: usize,
     kind: RateMatching,
     positions: &[u16],
-    start: u32,
+    sequence: &[u8],
     soft: &[i32],
     row: &mut [u8],
 )
     requires { ⌜ (5 ≤ n) × (n ≤ 9) × Fits kind (2 ^ n) (length (now soft)) × (length (now soft) ≤ 1728) × Within 127 (now soft) ⌝ }
-    requires { ⌜ (start < 2 ^ 31) × Positions (2 ^ n) (now positions) × (length (now row) ≡ length (now positions)) ⌝ }
-    ensures { λ _. ⌜ now (row .exit) ≡ maskedRow (code n kind (now (positions .entry))) (length (now (soft .entry))) start (now (soft .entry)) ⌝ }
+    requires { ⌜ (length (now sequence) ≡ length (now soft)) × Positions (2 ^ n) (now positions) × (length (now row) ≡ length (now positions)) ⌝ }
+    ensures { λ _. ⌜ now (row .exit) ≡ maskedRow (code n kind (now (positions .entry))) (length (now (soft .entry))) (now (sequence .entry)) (now (soft .entry)) ⌝ }
 {
     let len = 1 << n;
     let k = positions.len();
     let mut est = [0u8; 512];
-    decide(n, kind, positions, start, soft, &mut est[..len]);
+    decide(n, kind, positions, sequence, soft, &mut est[..len]);
     let mut bits = [0u8; 164];
     pick(&est[..len], positions, &mut bits[..k]);
     interleaver::deinterleave(&bits[..k], row);

@@ -1,6 +1,6 @@
 // What several steps do with a row of bytes or of soft values.
 ghost use mathlib.Core.Path.{_≡_};
-ghost use lib.ListN.{length};
+ghost use lib.ListN.{length, replicate};
 
 // `to` becomes `from`.
 pub fn copy(from: &[u8], to: &mut [u8])
@@ -24,5 +24,16 @@ pub fn copy_soft(from: &[i32], to: &mut [i32])
         let x = from[k];
         to[k] = x;
         k += 1;
+    }
+}
+
+// The row becomes 0.
+pub fn clear(row: &mut [u8])
+    ensures { λ _. ⌜ now (row .exit) ≡ replicate (length (now (row .entry))) 0 ⌝ }
+{
+    let mut at = 0;
+    while at < row.len() {
+        row[at] = 0;
+        at += 1;
     }
 }

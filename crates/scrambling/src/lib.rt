@@ -97,6 +97,15 @@ pub fn scramble(seed: u32, row: &mut [u8])
     );
 }
 
+// The Gold sequence that x2 starts with the bits of `seed`, as a row: added to zeros.
+pub fn sequence(seed: u32, row: &mut [u8])
+    requires { ⌜ seed < 2 ^ 31 ⌝ }
+    ensures { λ _. ⌜ now (row .exit) ≡ gold seed (length (now (row .entry))) ⌝ }
+{
+    rows::clear(row);
+    scramble(seed, row);
+}
+
 // A soft value, negated where the scrambling bit is 1.
 fn negate_if(x: i32, bit: u8) -> i32
     requires { ⌜ natAbs x ≤ 127 ⌝ }
@@ -117,15 +126,4 @@ pub fn negate(bits: &[u8], soft: &[i32], out: &mut [i32])
         out[k] = r;
         k += 1;
     }
-}
-
-// The soft values of a row that was scrambled from `seed`, as they were sent: the sequence stands in a row of its own.
-pub fn descramble(seed: u32, soft: &[i32], out: &mut [i32])
-    requires { ⌜ (seed < 2 ^ 31) × (length (now out) ≡ length (now soft)) × (length (now soft) ≤ 1728) × Within 127 (now soft) ⌝ }
-    ensures { λ _. ⌜ now (out .exit) ≡ descramble (gold seed (length (now (soft .entry)))) (now (soft .entry)) ⌝ }
-{
-    let len = soft.len();
-    let mut bits = [0u8; 1728];
-    scramble(seed, &mut bits[..len]);
-    negate(&bits[..len], soft, out);
 }

@@ -1,12 +1,15 @@
 -- An answer of a call and the buffer that it leaves, as the C calls return them.
 -- Assumes nothing.
-use Prim.Native.Nat.{ℕ, _+_, _*_, _^_, _<_}
+use Prim.Native.Nat.{ℕ, _+_, _*_, _/_, _%_, _^_, _≤_, _<_}
 use native.Mathlib.Omega.{arith}
 use mathlib.Core.Path.{_≡_, ap, _∙_}
 use mathlib.Core.List.{List}
+use lib.IntN.{ℤ}
 use Rattle.nr.specs.declared.Answer.{Answer}
 use Rattle.nr.specs.Answer.{number, placeOf, Outcome, given}
-use Rattle.speltfeather.specs.Packed.{Returns}
+use Rattle.nr.specs.Searching.{Found, found, searching}
+use Rattle.nr.proofs.Searching.{searching-small}
+use Rattle.speltfeather.specs.Packed.{Returns, named}
 
 -- the number plus 256 times the place
 abbrev pub packed : Answer → ℕ
@@ -24,3 +27,24 @@ module _ (o : Outcome) (r : Answer) (buffer : List ℕ) (e : given r buffer ≡ 
   -- the place that a call answers with is small
   pub small : o .place < 4096 → placeOf r < 2 ^ 32
   small l = omega (arith, carried)
+
+-- the same of a search
+module _ {number candidate : ℕ} {part : List ℤ} {buffer : List ℕ} {f : Found} (e : found number candidate part buffer ≡ f) where
+  pub found-returned : Returns (named f) (number + 256 * candidate) buffer
+  found-returned = record {
+    answer = ap (λ (f : Found). f .number + 256 * f .candidate) e;
+    output = ap (λ (f : Found). f .buffer) e;
+  }
+
+  pub found-small : (f .number ≤ 8) × (f .candidate ≤ 44) → (number ≤ 8) × (candidate ≤ 44)
+  found-small l = (omega (arith, ap (λ (f : Found). f .number) e), omega (arith, ap (λ (f : Found). f .candidate) e))
+
+-- ---- how a caller takes them apart: as the remainder and the quotient by 256
+
+pub unpacked : (o : Outcome) (r : ℕ) (buffer : List ℕ) → Returns o r buffer → o .number < 256 → (r % 256 ≡ o .number) × (r / 256 ≡ o .place)
+unpacked o r buffer h l = (omega (arith, h .answer), omega (arith, h .answer))
+
+pub found-unpacked : (n : ℕ) (region : List ℤ) (list out : List ℕ) (r : ℕ) (buffer : List ℕ) → Returns (named (searching n region list out)) r buffer
+    → (r % 256 ≡ searching n region list out .number) × (r / 256 ≡ searching n region list out .candidate)
+found-unpacked n region list out r buffer h =
+    unpacked (named (searching n region list out)) r buffer h (omega (arith, searching-small n region list out .0))

@@ -5,6 +5,7 @@ use mathlib.Core.Path.{_≡_}
 use mathlib.Core.List.{List}
 use Rattle.nr.specs.declared.Numbers.{Numbers}
 use Rattle.nr.specs.Answer.{Outcome}
+use Rattle.nr.specs.Searching.{Found}
 
 -- the numbers of a call
 abbrev pub numbers : ℕ → ℕ → ℕ → ℕ → Numbers
@@ -14,3 +15,7 @@ numbers A E rnti n = record { a = A; e = E; rnti = rnti; «n_id» = n }
 pub record Returns (o : Outcome) (r : ℕ) (buffer : List ℕ) : Type 0 where
   pub answer : r ≡ o .number + 256 * o .place
   pub output : buffer ≡ o .buffer
+
+-- what a search gives: the candidate stands in the place's stead, and the stretch, which follows from it, is not returned
+abbrev pub named : Found → Outcome
+named f = record { number = f .number; place = f .candidate; buffer = f .buffer }

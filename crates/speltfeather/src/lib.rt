@@ -8,7 +8,8 @@ ghost use Rattle.nr.specs.Coding.{coding};
 ghost use Rattle.nr.specs.Decoding.{decoding};
 ghost use Rattle.nr.specs.Loopback.{looped};
 ghost use Rattle.nr.specs.Describing.{describing};
-ghost use Rattle.speltfeather.specs.Packed.{numbers, Returns};
+ghost use Rattle.nr.specs.Searching.{searching};
+ghost use Rattle.speltfeather.specs.Packed.{numbers, Returns, named};
 
 // An answer as one number: its own plus 256 times the place that it carries.
 fn pack(answer: Answer) -> u64
@@ -84,4 +85,20 @@ pub extern "C" fn spelt_describe(a: u64, e: u64, out: &mut [u8]) -> u64
 {
     let described = dci::describe(a, e, out);
     pack(described)
+}
+
+// Searches a list of candidates, four numbers each: `search::search`. The part of the region follows from the candidate.
+#[no_mangle]
+pub extern "C" fn spelt_search_list(
+    n_id: u16,
+    region: &[i32],
+    candidates: &[u32],
+    out: &mut [u8],
+) -> u64
+    ensures { λ r. ⌜ Returns (named (searching «n_id» (now (region .entry)) (now (candidates .entry)) (now (out .entry)))) r (now (out .exit)) ⌝ }
+{
+    let mut number = 0;
+    let mut candidate = 0;
+    search::search(n_id, region, candidates, out, &mut number, &mut candidate);
+    number + 256 * (candidate as u64)
 }

@@ -10,7 +10,7 @@ use mir.Syntax.{w32}
 use mir.Val.{toZ, ofZ}
 use Rattle.nr.specs.Rows.{first}
 use Rattle.checks.specs.Checks.{beyond}
-use Rattle.checks.proofs.Outside.{below-hit, above-hit, inside-miss, limits}
+use Rattle.checks.proofs.Outside.{hit, miss, limits}
 use Rattle.checks.proofs.first_outside.Statement.{statement}
 use Rattle.checks.proofs.first_outside.Tie as tie
 
@@ -22,13 +22,6 @@ Inv-loop row low high i₀ i =
 abbrev μ-loop : tie.MeasureT-loop
 μ-loop row low high i₀ i = length row - i
 
-loop-again : tie.Need-loop-again Inv-loop μ-loop
-loop-again c =
-    let x = c .before .before in
-    let s = x .before .before in
-    let a = s .before .args in
-    (omega arith, omega (arith, s .loop .inv .1, inside-miss (toZ w32 (ofZ w32 (a .low))) (toZ w32 (ofZ w32 (a .high))) (a .row .now) (s .loop .i) (omega arith) (record { sfits = x .x .given }) (c .before .if1 .left) (c .if2 .left)))
-
 loop-holds : tie.Need-loop-holds Inv-loop μ-loop
 loop-holds c = (omega arith, omega arith)
 
@@ -38,26 +31,18 @@ mul-x c = search needs
 shared-slice-copy-out-x : tie.Need-shared-slice-copy-out-x Inv-loop μ-loop
 shared-slice-copy-out-x c = omega arith
 
+is-outside-requires : tie.Need-is-outside-requires Inv-loop μ-loop
+is-outside-requires c κs = search needs
+
 returns : tie.Need-returns Inv-loop μ-loop
 returns c =
-    let s = c .before .before .before in
+    let b = c .before in
+    let s = b .before .before .before in
     let a = s .before .args in
     omega (
       arith,
       s .loop .inv .1,
-      below-hit (toZ w32 (ofZ w32 (a .low))) (toZ w32 (ofZ w32 (a .high))) (a .row .now) (s .loop .i) (omega arith) (record { sfits = c .before .x .given }) (c .if1 .taken),
-      limits (a .low) (a .high) (s .before .fits .low) (s .before .fits .high) (a .row .now),
-    )
-
-returns-2 : tie.Need-returns-2 Inv-loop μ-loop
-returns-2 c =
-    let x = c .before .before in
-    let s = x .before .before in
-    let a = s .before .args in
-    omega (
-      arith,
-      s .loop .inv .1,
-      above-hit (toZ w32 (ofZ w32 (a .low))) (toZ w32 (ofZ w32 (a .high))) (a .row .now) (s .loop .i) (omega arith) (record { sfits = x .x .given }) (c .before .if1 .left) (c .if2 .taken),
+      hit (toZ w32 (ofZ w32 (a .low))) (toZ w32 (ofZ w32 (a .high))) (a .row .now) (s .loop .i) (omega arith) (record { sfits = b .before .x .given }) (b .is-outside .result) (b .is-outside .ensures) (c .if1 .taken),
       limits (a .low) (a .high) (s .before .fits .low) (s .before .fits .high) (a .row .now),
     )
 
@@ -67,8 +52,15 @@ add-i c = omega arith
 loop-less : tie.Need-loop-less Inv-loop μ-loop
 loop-less c = omega arith
 
-returns-3 : tie.Need-returns-3 Inv-loop μ-loop
-returns-3 c =
+loop-again : tie.Need-loop-again Inv-loop μ-loop
+loop-again c =
+    let b = c .before in
+    let s = b .before .before .before in
+    let a = s .before .args in
+    (omega arith, omega (arith, s .loop .inv .1, miss (toZ w32 (ofZ w32 (a .low))) (toZ w32 (ofZ w32 (a .high))) (a .row .now) (s .loop .i) (omega arith) (record { sfits = b .before .x .given }) (b .is-outside .result) (b .is-outside .ensures) (c .if1 .left)))
+
+returns-2 : tie.Need-returns-2 Inv-loop μ-loop
+returns-2 c =
     let s = c .before in
     let a = s .before .args in
     let f = first (beyond (toZ w32 (ofZ w32 (a .low))) (toZ w32 (ofZ w32 (a .high)))) in
@@ -90,9 +82,9 @@ first-outside-spec =
     loop-holds
     mul-x
     shared-slice-copy-out-x
+    is-outside-requires
     returns
-    returns-2
     add-i
     loop-less
     loop-again
-    returns-3)
+    returns-2)

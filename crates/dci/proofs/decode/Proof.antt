@@ -7,8 +7,9 @@ use lib.ListN.{length}
 use borrow.Author.Needs.{needs}
 use Rattle.nr.specs.Rows.{first}
 use Rattle.nr.specs.Decoding.{badSoft}
+use Rattle.checks.proofs.Refusing.{refused}
 use Rattle.dci.proofs.Ranges.{first-soft}
-use Rattle.dci.proofs.Outcomes.{refused, decoding-sizes, decoding-entry, decoding-passes, decoding-judged, soft-within}
+use Rattle.dci.proofs.Outcomes.{decoding-sizes, decoding-entry, decoding-passes, decoding-judged, soft-within}
 use Rattle.dci.proofs.decode.Statement.{statement}
 use Rattle.dci.proofs.decode.Tie as tie
 
@@ -47,7 +48,7 @@ returns-3 c =
     let k = f .before .before .before in
     let a = k .before .before .args in
     decoding-judged (a .numbers) (a .soft .now) (a .out .now) (k .check-sizes .result) (k .check-sizes .ensures) (f .before .enum-told .given .1) (clean (v .before .before))
-    (v .accept .result) (v .accept .last .1 .1 .0) (v .accept .ensures)
+    (v .fresh .result) (v .fresh .last .1 .1 .0) (v .fresh .ensures)
 
 check-sizes-requires : tie.Need-check-sizes-requires
 check-sizes-requires c κs = search needs
@@ -58,8 +59,8 @@ enum-told c = search needs
 first-outside-requires : tie.Need-first-outside-requires
 first-outside-requires c κs = search needs
 
-accept-requires : tie.Need-accept-requires
-accept-requires c κs =
+fresh-requires : tie.Need-fresh-requires
+fresh-requires c κs =
     let f = c .before .before in
     let k = f .before .before .before in
     let a = k .before .before .args in
@@ -78,6 +79,6 @@ decode-spec =
     returns
     first-outside-requires
     returns-2
-    accept-requires
+    fresh-requires
     same-length
     returns-3)

@@ -1,6 +1,6 @@
 -- `dci::describe` meets its contract.
 -- Assumes nothing.
-use Rattle.dci.proofs.Outcomes.{refused}
+use Rattle.checks.proofs.Refusing.{refused}
 use Rattle.dci.proofs.Telling.{telling-sizes, telling-passes, telling-done}
 use borrow.Author.Needs.{needs}
 use Rattle.dci.proofs.describe.Statement.{statement}

@@ -5,7 +5,8 @@ use Prim.Native.Nat.{_≤_}
 use lib.ListN.{length}
 use Rattle.nr.specs.Rows.{first}
 use Rattle.nr.specs.Coding.{badByte}
-use Rattle.dci.proofs.Outcomes.{refused, coding-sizes, coding-entry, coding-passes, coding-done, payload-bits}
+use Rattle.checks.proofs.Refusing.{refused}
+use Rattle.dci.proofs.Outcomes.{coding-sizes, coding-entry, coding-passes, coding-done, payload-bits}
 use borrow.Author.Needs.{needs}
 use Rattle.dci.proofs.encode.Statement.{statement}
 use Rattle.dci.proofs.encode.Tie as tie

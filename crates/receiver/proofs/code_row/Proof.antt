@@ -6,7 +6,6 @@ use mathlib.Core.Path.{_≡_, sym, subst, ap, ap₂, _∙_}
 use mathlib.Core.List.{_++_}
 use lib.IntN.{pos}
 use lib.ListN.{length, take, drop, replicate}
-use Rattle.nr.specs.Scrambling.{gold}
 use Rattle.nr.specs.SuccessiveDecoder.{descramble, codeRow}
 use Rattle.nr.specs.RateMatching.{Fits}
 use Rattle.nr.specs.Rows.{Within}
@@ -22,38 +21,38 @@ E s = length (s .args .soft .now)
 size : (s : tie.Start) → length (take (E s) (replicate 1728 (pos 0))) ≡ E s
 size s = front-size (E s) 1728 (pos 0) (s .pre .0 .3)
 
-back-size : (c : tie.After-descramble) → length (c .descramble .last .1 .1 .0) ≡ E (c .before .before)
-back-size c = c .descramble .kept .1 .1 .0 ∙ size (c .before .before)
+back-size : (c : tie.After-negate) → length (c .negate .last .1 .1 .0) ≡ E (c .before .before .before)
+back-size c = c .negate .kept .1 .1 .0 ∙ size (c .before .before .before)
 
-lent : (c : tie.After-descramble) → let e = E (c .before .before) in
-    take e (c .descramble .last .1 .1 .0 ++ drop e (replicate 1728 (pos 0)))
-    ≡ descramble (gold (c .before .before .args .start) (length (c .before .before .args .soft .now))) (c .before .before .args .soft .now)
-lent c = front-back (c .descramble .last .1 .1 .0) _ (E (c .before .before)) (back-size c) ∙ c .descramble .ensures
+lent : (c : tie.After-negate) → let e = E (c .before .before .before) in
+    take e (c .negate .last .1 .1 .0 ++ drop e (replicate 1728 (pos 0)))
+    ≡ descramble (c .before .before .before .args .sequence .now) (c .before .before .before .args .soft .now)
+lent c = front-back (c .negate .last .1 .1 .0) _ (E (c .before .before .before)) (back-size c) ∙ c .negate .ensures
 
-lent-size : (c : tie.After-descramble) → let e = E (c .before .before) in
-    length (take e (c .descramble .last .1 .1 .0 ++ drop e (replicate 1728 (pos 0)))) ≡ e
-lent-size c = ap length (front-back (c .descramble .last .1 .1 .0) _ (E (c .before .before)) (back-size c)) ∙ back-size c
+lent-size : (c : tie.After-negate) → let e = E (c .before .before .before) in
+    length (take e (c .negate .last .1 .1 .0 ++ drop e (replicate 1728 (pos 0)))) ≡ e
+lent-size c = ap length (front-back (c .negate .last .1 .1 .0) _ (E (c .before .before .before)) (back-size c)) ∙ back-size c
 
 returns : tie.Need-returns
 returns c =
     let g = c .before in
     let d = g .before .before .before .before in
-    let a = d .before .before .args in
+    let a = d .before .before .before .args in
     g .gather .ensures ∙ ap₂ (codeRow (a .kind) (2 ^ a .n)) (lent-size d) (lent d)
 
 array-borrow-prefix-sent : tie.Need-array-borrow-prefix-sent
 array-borrow-prefix-sent c = search needs
 
-slice-aggregate-descramble : tie.Need-slice-aggregate-descramble
-slice-aggregate-descramble c = sym (size (c .before))
+slice-aggregate-negate : tie.Need-slice-aggregate-negate
+slice-aggregate-negate c = sym (size (c .before .before))
 
-descramble-requires : tie.Need-descramble-requires
-descramble-requires c κs =
-    let s = c .before in
-    (s .pre .1 .0, size s, s .pre .0 .3, s .pre .0 .4)
+negate-requires : tie.Need-negate-requires
+negate-requires c κs =
+    let s = c .before .before in
+    (s .pre .1 .0, size s, s .pre .0 .4)
 
 array-share-prefix-sent : tie.Need-array-share-prefix-sent
-array-share-prefix-sent c = front-room (c .before .descramble .last .1 .1 .0) _ _ (back-size (c .before))
+array-share-prefix-sent c = front-room (c .before .negate .last .1 .1 .0) _ _ (back-size (c .before))
 
 slice-aggregate-gather : tie.Need-slice-aggregate-gather
 slice-aggregate-gather c = sym (lent-size (c .before .before))
@@ -61,14 +60,14 @@ slice-aggregate-gather c = sym (lent-size (c .before .before))
 gather-requires : tie.Need-gather-requires
 gather-requires c κs =
     let d = c .before .before .before in
-    let s = d .before .before in
+    let s = d .before .before .before in
     let a = s .args in (
       s .pre .0 .0,
       s .pre .0 .1,
       subst (Fits (a .kind) (2 ^ a .n)) (sym (lent-size d)) (s .pre .0 .2),
       s .pre .1 .1,
       subst (λ (e : ℕ). e ≤ 1728) (sym (lent-size d)) (s .pre .0 .3),
-      subst (Within 127) (sym (lent d)) (descramble-within 127 (gold (a .start) (E s)) (a .soft .now) (s .pre .0 .4)),
+      subst (Within 127) (sym (lent d)) (descramble-within 127 (a .sequence .now) (a .soft .now) (s .pre .0 .4)),
     )
 
 same-length : tie.Need-same-length
@@ -79,8 +78,8 @@ code-row-spec =
     tie.close
     (tie.spec
     array-borrow-prefix-sent
-    slice-aggregate-descramble
-    descramble-requires
+    slice-aggregate-negate
+    negate-requires
     array-share-prefix-sent
     slice-aggregate-gather
     gather-requires

@@ -9,7 +9,6 @@ use mathlib.Core.List.{List}
 use lib.IntN.{ℤ, pos}
 use lib.ListN.{length, take, drop, replicate}
 use lib.Pow.{pow-mono}
-use Rattle.nr.specs.Scrambling.{gold}
 use Rattle.nr.specs.SuccessiveDecoder.{descramble, codeRow, marks, successive}
 use Rattle.nr.specs.Decoding.{decided}
 use Rattle.nr.specs.Rows.{Within}
@@ -28,7 +27,7 @@ room s = omega (arith, s .pre .1 .2, pow-mono {i = s .args .n} {j = 9} (s .pre .
 
 abbrev values : tie.Start → List ℤ
 values s =
-    codeRow (s .args .kind) (2 ^ s .args .n) (length (s .args .soft .now)) (descramble (gold (s .args .start) (length (s .args .soft .now))) (s .args .soft .now))
+    codeRow (s .args .kind) (2 ^ s .args .n) (length (s .args .soft .now)) (descramble (s .args .sequence .now) (s .args .soft .now))
 
 -- it stands in its place, once the part from N to 2N came back as it
 in-place : (s : tie.Start) (row : List ℤ) → length row ≡ length (take (2 * N s - N s) (drop (N s) (replicate 1024 (pos 0)))) → row ≡ values s
@@ -44,7 +43,7 @@ unfolding decided
 returns c =
     let d = c .before .before in
     let r = d .before .before .before .before in
-    let s = r .before .before .before .before in
+    let s = r .before .before .before .before .before in
     d .decide-row .ensures
     ∙ ap (successive (s .args .n) (marks (2 ^ s .args .n) (s .args .positions .now)))
     (in-place s (r .code-row .last .1 .1 .1 .1 .0) (r .code-row .kept .1 .1 .1 .1 .0) (r .code-row .ensures))
@@ -53,7 +52,7 @@ mul-code-row : tie.Need-mul-code-row
 mul-code-row c = search needs
 
 mul-work : tie.Need-mul-work
-mul-work c = omega (arith, room (c .before .before))
+mul-work c = omega (arith, room (c .before .before .before))
 
 sub-code-row : tie.Need-sub-code-row
 sub-code-row c = search needs
@@ -62,7 +61,7 @@ part-work-start : tie.Need-part-work-start
 part-work-start c = search needs
 
 part-work-end : tie.Need-part-work-end
-part-work-end c = room (c .before .before)
+part-work-end c = room (c .before .before .before)
 
 code-row-requires : tie.Need-code-row-requires
 code-row-requires c κs = search needs
@@ -70,13 +69,13 @@ code-row-requires c κs = search needs
 decide-row-requires : tie.Need-decide-row-requires
 decide-row-requires c κs =
     let r = c .before .before .before in
-    let s = r .before .before .before .before in
+    let s = r .before .before .before .before .before in
     let a = s .args in (
       (s .pre .0 .1, s .pre .1 .1, s .pre .1 .2),
       (
         whole (replicate 1024 (pos 0)) (r .code-row .last .1 .1 .1 .1 .0) (N s) (room s) (r .code-row .kept .1 .1 .1 .1 .0),
         subst (Within (2 ^ 20)) (sym (in-place s (r .code-row .last .1 .1 .1 .1 .0) (r .code-row .kept .1 .1 .1 .1 .0) (r .code-row .ensures)))
-            (codeRow-within (a .kind) (2 ^ a .n) (length (a .soft .now)) _ (s .pre .0 .3) (descramble-within 127 (gold (a .start) (length (a .soft .now))) (a .soft .now) (s .pre .0 .4))),
+            (codeRow-within (a .kind) (2 ^ a .n) (length (a .soft .now)) _ (s .pre .0 .3) (descramble-within 127 (a .sequence .now) (a .soft .now) (s .pre .0 .4))),
       ),
     )
 

@@ -27,7 +27,7 @@ room s = subst (λ (m : ℕ). m ≤ 512) (sym (power s)) (pow-mono {i = s .args 
 
 -- the decided bits, in the part that was lent for them
 abbrev start : tie.After-decide → tie.Start
-start c = c .before .before .before .before
+start c = c .before .before .before .before .before
 
 abbrev est : tie.After-decide → List ℕ
 est c = c .decide .last .1 .1 .1 .1 .1 .0
@@ -78,14 +78,14 @@ shl-len : tie.Need-shl-len
 shl-len c = search needs
 
 array-borrow-prefix-est : tie.Need-array-borrow-prefix-est
-array-borrow-prefix-est c = room (c .before .before)
+array-borrow-prefix-est c = room (c .before .before .before)
 
 slice-aggregate-decide : tie.Need-slice-aggregate-decide
-slice-aggregate-decide c = sym (est-size (c .before .before .before))
+slice-aggregate-decide c = sym (est-size (c .before .before .before .before))
 
 decide-requires : tie.Need-decide-requires
 decide-requires c κs =
-    let s = c .before .before .before in
+    let s = c .before .before .before .before in
     (s .pre .0, (s .pre .1 .0, s .pre .1 .1, est-size s ∙ power s))
 
 array-share-prefix-est : tie.Need-array-share-prefix-est

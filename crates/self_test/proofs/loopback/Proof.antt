@@ -9,7 +9,7 @@ use Rattle.nr.specs.Rows.{first}
 use Rattle.nr.specs.Coding.{badByte}
 use Rattle.nr.specs.Loopback.{badStrength}
 use Rattle.dci.proofs.Ranges.{first-strength}
-use Rattle.dci.proofs.Outcomes.{refused}
+use Rattle.checks.proofs.Refusing.{refused}
 use Rattle.self_test.proofs.Looping.{first-refused, second-refused, byte-refused, place-fits, strength-refused, loops, loop-done}
 use Rattle.self_test.proofs.loopback.Statement.{statement}
 use Rattle.self_test.proofs.loopback.Tie as tie
