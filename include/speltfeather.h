@@ -2,13 +2,14 @@
  * Speltfeather: channel coding of 5G NR downlink control information (DCI),
  * TS 38.212 7.3.2 to 7.3.4 and TS 38.211 7.3.2.3: CRC, RNTI, input interleaver,
  * polar code, rate matching, scrambling; and back from soft values, by
- * successive cancellation.
+ * successive cancellation, from one place or from the first of many candidates
+ * that decodes.
  *
  * Link with libspeltfeather.a. Nothing has to be set up first, and nothing is
  * kept between calls: calls may run in any number of threads at once. A call
  * allocates nothing, and of the C library it needs memcpy and memset alone. On
- * the stack coding takes about 3.4 kB, decoding 17 kB, the self-test 26 kB and
- * describing a code 2 kB.
+ * the stack coding takes about 3.4 kB, decoding 19 kB, searching 20 kB, the
+ * self-test 28 kB and describing a code 2 kB.
  */
 #ifndef SPELTFEATHER_H
 #define SPELTFEATHER_H
@@ -22,9 +23,9 @@ extern "C" {
 
 /* The version of this header and of the archive that it comes with. */
 #define SPELT_VERSION_MAJOR 0
-#define SPELT_VERSION_MINOR 1
+#define SPELT_VERSION_MINOR 2
 #define SPELT_VERSION_PATCH 0
-#define SPELT_VERSION "0.1.0"
+#define SPELT_VERSION "0.2.0"
 
 /*
  * The numbers given back. They are tested in this order, and the first that
@@ -32,15 +33,16 @@ extern "C" {
  * it held before the call.
  */
 enum spelt_number {
-    SPELT_DONE = 0,           /* the output is filled */
-    SPELT_PAYLOAD_SIZE = 1,   /* a is outside 12..140 */
-    SPELT_CODED_LENGTH = 2,   /* e is not among 108, 216, 432, 864, 1728 */
-    SPELT_TOO_MANY_BITS = 3,  /* a + 24 is more than e */
-    SPELT_INPUT_LENGTH = 4,   /* the length of an input does not fit a and e */
-    SPELT_OUTPUT_LENGTH = 5,  /* the length of the output does not fit them */
-    SPELT_BAD_ENTRY = 6,      /* an entry of the input is outside its range;
-                                 carries the place of the first */
-    SPELT_PARITY_MISMATCH = 7 /* decoding ran, and the parity does not match */
+    SPELT_DONE = 0,            /* the output is filled */
+    SPELT_PAYLOAD_SIZE = 1,    /* a is outside 12..140 */
+    SPELT_CODED_LENGTH = 2,    /* e is not among 108, 216, 432, 864, 1728 */
+    SPELT_TOO_MANY_BITS = 3,   /* a + 24 is more than e */
+    SPELT_INPUT_LENGTH = 4,    /* the length of an input does not fit a and e */
+    SPELT_OUTPUT_LENGTH = 5,   /* the length of the output does not fit them */
+    SPELT_BAD_ENTRY = 6,       /* an entry of the input is outside its range;
+                                  carries the place of the first */
+    SPELT_PARITY_MISMATCH = 7, /* decoding ran, and the parity does not match */
+    SPELT_NO_CANDIDATE = 8     /* searching: no candidate decodes */
 };
 
 /*
@@ -54,6 +56,13 @@ enum spelt_number {
  *   6  range      payload 0, 1   soft -127..127 payload 0, 1;    never
  *                                               strengths 1..127
  *   7             never          may come       never            never
+ *
+ * spelt_search gives 0, 4, 5 or 8 alone, and no other call gives 8:
+ *
+ *   0  out holds  the payload of the candidate named, in its first a bytes
+ *   4  lengths    region 108 for each of 0 to 64 CCEs, at most 44 candidates
+ *   5  length     out 140
+ *   8             no candidate decodes
  */
 
 #ifdef __cplusplus
@@ -65,9 +74,14 @@ enum spelt_number {
 /* The number in the answer r of a call: one of enum spelt_number. */
 #define SPELT_NUMBER(r) SPELT_AS(int, (r) & 255u)
 
-/* The place in the answer r: with SPELT_BAD_ENTRY the index, from 0, of the
- * first entry outside its range; with every other number 0. */
+/* The place in the answer r of every call but spelt_search: with
+ * SPELT_BAD_ENTRY the index, from 0, of the first entry outside its range; with
+ * every other number 0. */
 #define SPELT_PLACE(r) SPELT_AS(size_t, (r) >> 8)
+
+/* The candidate in the answer r of spelt_search: with SPELT_DONE the index,
+ * from 0, of the one that was read; with every other number 0. */
+#define SPELT_CANDIDATE(r) SPELT_AS(size_t, (r) >> 8)
 
 /*
  * What the calls share:
@@ -90,8 +104,9 @@ enum spelt_number {
  * numbers, lengths and entries may be handed in, and what does not fit is
  * refused.
  *
- * Each call gives the number plus 256 times the place; take them out with
- * SPELT_NUMBER and SPELT_PLACE. 0 means done.
+ * Each call gives the number plus 256 times the place, spelt_search plus 256
+ * times the candidate; take them out with SPELT_NUMBER, SPELT_PLACE and
+ * SPELT_CANDIDATE. The number 0 means done.
  */
 
 /*
@@ -147,6 +162,100 @@ uint64_t spelt_loopback(uint64_t a, uint64_t e, uint16_t rnti, uint16_t n_id,
                         const uint8_t *payload, size_t payload_len,
                         const int32_t *strengths, size_t strengths_len,
                         uint8_t *out, size_t out_len);
+
+/* The limits of a search. */
+#define SPELT_CCE 108           /* soft values of a control channel element */
+#define SPELT_MAX_CCES 64       /* CCEs in a region */
+#define SPELT_MAX_CANDIDATES 44 /* candidates in a list */
+#define SPELT_MAX_PAYLOAD 140   /* bits of a payload: bytes of the buffer */
+
+/* Where a message may lie, and what it would be read under. */
+typedef struct spelt_candidate {
+    uint32_t first_cce; /* its first CCE, counted from 0: a multiple of level */
+    uint32_t level;     /* aggregation level, its CCEs: 1, 2, 4, 8 or 16 */
+    uint32_t a;         /* payload size */
+    uint32_t rnti;      /* radio number */
+} spelt_candidate;
+
+/* A list of them is a list of four numbers for each: else this is an error. */
+typedef char spelt_candidate_is_four_numbers
+    [sizeof(spelt_candidate) == 4 * sizeof(uint32_t) ? 1 : -1];
+
+/* spelt_search, with the list as numbers: four for each candidate, in the order
+ * of the struct. SPELT_INPUT_LENGTH also where they are not whole fours. */
+uint64_t spelt_search_list(uint16_t n_id,
+                           const int32_t *region, size_t region_len,
+                           const uint32_t *candidates, size_t candidates_len,
+                           uint8_t *out, size_t out_len);
+
+/*
+ * Looks for a message in a region: tries the candidates in the order of the
+ * list, under one n_id, and stops at the first that decodes.
+ *
+ *   region      the soft values of its CCEs, the first CCE first, as
+ *               spelt_decode takes them: 108 for each CCE, two for each QPSK
+ *               symbol, those of the reference signals left out. region_len
+ *               counts values. A candidate's CCEs must lie one behind the
+ *               other, as they do with one symbol and without interleaved
+ *               mapping.
+ *   candidates  count of them, in the order in which they are to be tried; they
+ *               may share CCEs
+ *   out         140 bytes; takes the payload, a bit in each byte, first bit
+ *               first
+ *
+ * A candidate decodes exactly if it lies in the region as a message may and
+ * spelt_decode gives SPELT_DONE for its own 108 * level values under its a and
+ * rnti. So it counts as not decoding, and the next is tried, if its level is
+ * not 1, 2, 4, 8 or 16, its first CCE is not a multiple of its level, it
+ * reaches outside the region, its rnti is above 65535 (nothing is cut to 16
+ * bits here), or one of the numbers 1 to 6 applies to it. A value outside
+ * -127..127 bars only the candidates that it is a part of.
+ *
+ * SPELT_DONE           SPELT_CANDIDATE(r) is the first candidate that decodes;
+ *                      none behind it was tried. The first a bytes of out are
+ *                      its payload, and all others are as they were. The
+ *                      stretch that it was read from is 108 * level values at
+ *                      region + 108 * first_cce.
+ * SPELT_INPUT_LENGTH   the region is not 0 to 64 whole CCEs, or there are more
+ *                      than 44 candidates
+ * SPELT_OUTPUT_LENGTH  out_len is not 140
+ * SPELT_NO_CANDIDATE   none decodes, as where the region or the list is empty
+ *
+ * To find further messages, search again with the candidates behind the one
+ * named.
+ *
+ * A message of level 16 may also decode as one of level 8 with the same first
+ * CCE, and without noise does, since its first 864 bits are those of level 8;
+ * one of level 8 may decode as one of level 16. The order of the list decides
+ * which is named, so that the level named need not be the one that was sent.
+ *
+ * Each candidate that is tried adds to the chance that noise is taken for a
+ * message: about 2^-24 for each, which is what 24 parity bits let through and
+ * what docs/BLER.md measures for single rows; for 44 about 3 in a million.
+ *
+ *   static const spelt_candidate list[] = {
+ *       {0, 8, 40, 0x4601}, {8, 8, 40, 0x4601}, {4, 4, 40, 0xFFFF}};
+ *   uint8_t payload[SPELT_MAX_PAYLOAD];
+ *   uint64_t r = spelt_search(n_id, region, 48 * SPELT_CCE, list, 3,
+ *                             payload, SPELT_MAX_PAYLOAD);
+ *   if (SPELT_NUMBER(r) == SPELT_DONE) {
+ *       const spelt_candidate *found = &list[SPELT_CANDIDATE(r)];
+ *       take(payload, found->a);
+ *       show(region + SPELT_CCE * found->first_cce, SPELT_CCE * found->level);
+ *   }
+ */
+static inline uint64_t spelt_search(uint16_t n_id,
+                                    const int32_t *region, size_t region_len,
+                                    const spelt_candidate *candidates,
+                                    size_t count, uint8_t *out, size_t out_len)
+{
+    /* One too many is refused like any greater count, which could wrap. */
+    const size_t most = SPELT_MAX_CANDIDATES + 1;
+    const void *list = candidates;
+    return spelt_search_list(n_id, region, region_len,
+                             SPELT_AS(const uint32_t *, list),
+                             4 * (count < most ? count : most), out, out_len);
+}
 
 /* What a position of a code is for. */
 enum spelt_role {

@@ -89,18 +89,24 @@ pub fn to_code(a: u64, e: u64, random: &mut Random) -> Message<u8> {
 
 /// A random payload received with noise, not too much to be accepted.
 pub fn to_decode(a: u64, e: u64, random: &mut Random) -> Message<i32> {
+    let numbers = random.numbers(a, e);
+    Message {
+        numbers,
+        input: accepted(&numbers, random),
+        out: vec![0; a as usize],
+    }
+}
+
+/// The soft values of such a payload.
+pub fn accepted(numbers: &Numbers, random: &mut Random) -> Vec<i32> {
+    let Numbers { a, e, .. } = *numbers;
     let noise = (e as f64 / (6 * (a + 24)) as f64).sqrt();
+    let mut out = vec![0; a as usize];
     loop {
-        let numbers = random.numbers(a, e);
-        let coded = trials::coded(&numbers, &random.bits(a as usize));
-        let input = received(&coded, noise, 20.0, random);
-        let mut out = vec![0; a as usize];
-        if speltfeather::decode(&numbers, &input, &mut out).is_ok() {
-            return Message {
-                numbers,
-                input,
-                out,
-            };
+        let coded = trials::coded(numbers, &random.bits(a as usize));
+        let soft = received(&coded, noise, 20.0, random);
+        if speltfeather::decode(numbers, &soft, &mut out).is_ok() {
+            return soft;
         }
     }
 }

@@ -1,11 +1,13 @@
 //! Nanoseconds for coding and decoding a message: the library, plain C with two scramblers, and the
-//! second program; then where the library's time goes. Prints tables for docs/BENCHMARKS.md.
+//! second program; then the search beside single decodes, and where the library's time goes. Prints
+//! tables for docs/BENCHMARKS.md.
 //! With BEFORE set, the archive of that name beside the one of this tree.
 
 mod against;
 mod contestants;
 mod profile;
 mod sampler;
+mod search;
 mod timing;
 
 use channel::Random;
@@ -38,9 +40,18 @@ struct Line<T, const N: usize> {
 }
 
 fn lines<T, const N: usize>(contestants: &Contestants<T, N>, make: Make<T>) -> Vec<Line<T, N>> {
-    let mut random = Random::new(SEED);
     let sizes = PAYLOAD_SIZES.into_iter();
     let sizes = sizes.flat_map(|a| reference::CODED_LENGTHS.map(|e| (a, e)));
+    lines_of(sizes, contestants, make)
+}
+
+/// The lines of these sizes, on whose messages all contestants agree.
+fn lines_of<T, const N: usize>(
+    sizes: impl Iterator<Item = (u64, u64)>,
+    contestants: &Contestants<T, N>,
+    make: Make<T>,
+) -> Vec<Line<T, N>> {
+    let mut random = Random::new(SEED);
     let line = |(a, e)| {
         let messages = messages(a, e, make, &mut random);
         assert_all_equal(contestants, &messages);
@@ -121,5 +132,6 @@ fn main() {
     println!("C/1 and C/16: plain C with 1 or 16 terms of the Gold sequence at a time");
     let coding = print_table("Coding", &CODERS, to_code);
     let decoding = print_table("Decoding", &DECODERS, to_decode);
+    search::print();
     profile::print(&coding, &decoding);
 }

@@ -3,8 +3,9 @@
 //! It follows the same rules (TS 38.212 5.3.1, 5.4.1, 7.3.2 to 7.3.4; TS 38.211 5.2.1, 7.3.2.3) by
 //! other means, so that one mistake is unlikely to be made twice: the CRC is a division of numbers,
 //! the transform a product with the matrix, the interleaver is rebuilt from the generator, the
-//! reliability order comes from another print, the Gold sequence is its recurrence on arrays, and the
-//! decoder goes from position to position instead of calling itself on halves.
+//! reliability order comes from another print, the Gold sequence is its recurrence on arrays, the
+//! decoder goes from position to position instead of calling itself on halves, and the search looks
+//! candidates up among all places of the region.
 //! It is written to be checked, not to be fast.
 
 pub mod construction;
@@ -14,10 +15,12 @@ pub mod parity;
 pub mod published;
 pub mod rate_matching;
 pub mod scrambling;
+pub mod searching;
 pub mod transform;
 
 pub use construction::{Kind, Layout, layout};
 pub use rate_matching::selected;
+pub use searching::search;
 
 /// The payload sizes that are accepted.
 pub const PAYLOAD_SIZES: std::ops::RangeInclusive<u64> = 12..=140;

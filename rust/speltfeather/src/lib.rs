@@ -23,20 +23,22 @@
 //! # Answers
 //!
 //! Any numbers, lengths and contents may be handed in. The conditions are tested in this order, and
-//! the first that applies is given; on every answer but `Ok(())` the output holds what it held.
+//! the first that applies is given; on every answer but `Ok` the output holds what it held.
 //!
 //! | number | answer | given when |
 //! |---|---|---|
-//! | 0 | `Ok(())` | done: the output holds E bits ([`encode`]), A bits ([`decode`], [`loopback`]) or 512 roles ([`describe`]) |
+//! | 0 | `Ok` | done: the output holds E bits ([`encode`]), A bits ([`decode`], [`loopback`]), A bits at its front ([`search`]) or 512 roles ([`describe`]) |
 //! | 1 | [`Refusal::PayloadSize`] | the payload size A is outside 12..=140 |
 //! | 2 | [`Refusal::CodedLength`] | the coded length E is not among 108, 216, 432, 864, 1728 |
 //! | 3 | [`Refusal::TooManyBits`] | A + 24 is more than E |
-//! | 4 | [`Refusal::InputLength`] | the payload's length is not A, or there are not E soft values or strengths |
-//! | 5 | [`Refusal::OutputLength`] | the output's length is not E ([`encode`]), A ([`decode`], [`loopback`]) or 512 ([`describe`]) |
+//! | 4 | [`Refusal::InputLength`] | the payload's length is not A, or there are not E soft values or strengths; [`search`]: the region is not 0 to 64 whole CCEs, or there are more than 44 candidates |
+//! | 5 | [`Refusal::OutputLength`] | the output's length is not E ([`encode`]), A ([`decode`], [`loopback`]), 140 ([`search`]) or 512 ([`describe`]) |
 //! | 6 | [`Refusal::BadEntry`] | a payload byte above 1, a soft value outside -127..=127 or a strength outside 1..=127; carries the place of the first |
 //! | 7 | [`Refusal::ParityMismatch`] | decoding ran, and the parity does not match; from [`decode`] alone |
+//! | 8 | [`Refusal::NoCandidate`] | no candidate decodes; from [`search`] alone |
 //!
-//! [`describe`], and [`Code`] over it, tell what each position of a code is for.
+//! [`search`] looks for a message at a list of candidates. [`describe`], and [`Code`] over it, tell what
+//! each position of a code is for.
 
 use std::error::Error;
 use std::fmt;
@@ -63,19 +65,23 @@ pub enum Refusal {
     CodedLength,
     /// A + 24 is more than E.
     TooManyBits,
-    /// The payload's length is not A, or there are not E soft values or strengths.
+    /// The payload's length is not A, or there are not E soft values or strengths. Searching: the
+    /// region is not 0 to 64 whole CCEs, or there are more than 44 candidates.
     InputLength,
-    /// The output's length is not E (coding), A (decoding and loop-back) or 512 (describing a code).
+    /// The output's length is not E (coding), A (decoding and loop-back), 140 (searching) or 512
+    /// (describing a code).
     OutputLength,
     /// A payload byte is above 1, a soft value outside -127..=127 or a strength outside 1..=127; the
     /// first such entry stands at this place of the input.
     BadEntry(usize),
     /// The soft values were decoded, and the parity does not match: no payload is accepted.
     ParityMismatch,
+    /// Searching: no candidate decodes.
+    NoCandidate,
 }
 
 impl Refusal {
-    /// The number of this refusal, 1 to 7, as in the C interface.
+    /// The number of this refusal, 1 to 8, as in the C interface.
     pub fn number(&self) -> u8 {
         match self {
             Refusal::PayloadSize => 1,
@@ -85,6 +91,7 @@ impl Refusal {
             Refusal::OutputLength => 5,
             Refusal::BadEntry(_) => 6,
             Refusal::ParityMismatch => 7,
+            Refusal::NoCandidate => 8,
         }
     }
 }
@@ -101,6 +108,7 @@ impl fmt::Display for Refusal {
             Refusal::OutputLength => f.write_str("the output's length does not fit the sizes"),
             Refusal::BadEntry(place) => write!(f, "entry {place} of the input is out of range"),
             Refusal::ParityMismatch => f.write_str("the parity does not match"),
+            Refusal::NoCandidate => f.write_str("no candidate decodes"),
         }
     }
 }
@@ -139,6 +147,16 @@ unsafe extern "C" {
         payload_len: usize,
         strengths: *const i32,
         strengths_len: usize,
+        out: *mut u8,
+        out_len: usize,
+    ) -> u64;
+
+    fn spelt_search_list(
+        n_id: u16,
+        region: *const i32,
+        region_len: usize,
+        candidates: *const u32,
+        candidates_len: usize,
         out: *mut u8,
         out_len: usize,
     ) -> u64;
@@ -285,6 +303,122 @@ pub fn loopback(
         )
     };
     read(answer, 6)
+}
+
+/// How many soft values a CCE (control channel element) has.
+pub const CCE: usize = 108;
+
+/// How long the payload buffer of [`search`] is: the largest payload size.
+pub const MAX_PAYLOAD: usize = 140;
+
+/// Where a message may lie in a region, and what it would be read under. Any numbers may stand here;
+/// a candidate that is no possible message does not decode.
+#[repr(C)]
+#[derive(Clone, Copy, Debug, PartialEq, Eq)]
+pub struct Candidate {
+    /// Its first CCE, counted from 0: a multiple of its level.
+    pub first_cce: u32,
+    /// Aggregation level, the number of its CCEs: 1, 2, 4, 8 or 16.
+    pub level: u32,
+    /// Payload size A.
+    pub a: u32,
+    /// Radio number: at most 65535.
+    pub rnti: u32,
+}
+
+// The library takes a list of candidates as a list of numbers.
+const _: () = assert!(size_of::<Candidate>() == 4 * size_of::<u32>());
+
+/// What a search has found.
+#[derive(Clone, Copy, Debug, PartialEq, Eq)]
+pub struct Found<'a> {
+    /// The place in the list, from 0, of the first candidate that decodes.
+    pub candidate: usize,
+    /// Its payload size A: so many bytes at the front of the buffer are the payload.
+    pub size: usize,
+    /// The soft values that it was read from, in the caller's region.
+    pub stretch: &'a [i32],
+}
+
+/// Looks for a message in a region: tries the candidates in the order of the list, under one `n_id`,
+/// and stops at the first that decodes.
+///
+/// `region` has the soft values of its CCEs, the first CCE first, as [`decode`] takes them: [`CCE`] for
+/// each, two for each QPSK symbol, those of the reference signals left out. A candidate's CCEs lie one
+/// behind the other, as they do with one symbol and without interleaved mapping; candidates may share
+/// CCEs. `payload` has [`MAX_PAYLOAD`] bytes, of which the first [`Found::size`] take the payload; the
+/// others, and on a refusal all, are untouched.
+///
+/// A candidate decodes exactly if it lies in the region as a message may and [`decode`] accepts its own
+/// `108 * level` values under its numbers. So it counts as not decoding, and the next is tried, if its
+/// level is not 1, 2, 4, 8 or 16, its first CCE is not a multiple of its level, it reaches outside the
+/// region, its RNTI is above 65535, or one of the numbers 1 to 6 applies to it. A soft value outside
+/// -127..=127 bars only the candidates that it is a part of.
+///
+/// To find further messages, search again with the candidates behind the one named.
+///
+/// A message of level 16 may also decode as one of level 8 with the same first CCE, and without noise
+/// does, since its first 864 bits are those of level 8; one of level 8 may decode as one of level 16.
+/// The order of the list decides which is named, so that the level named need not be the one that was
+/// sent.
+///
+/// Each candidate that is tried adds to the chance that noise is taken for a message: about 2^-24 for
+/// each, so about 3 in a million for 44.
+///
+/// ```
+/// use speltfeather::{CCE, Candidate, MAX_PAYLOAD, Numbers, Refusal, encode, search};
+///
+/// // A message of level 2 in the CCEs 4 and 5 of a region of 8.
+/// let numbers = Numbers { a: 40, e: 216, rnti: 0x4601, n_id: 500 };
+/// let sent = [1; 40];
+/// let mut coded = [0; 216];
+/// encode(&numbers, &sent, &mut coded)?;
+/// let mut region = [0; 8 * CCE];
+/// region[4 * CCE..6 * CCE].copy_from_slice(&coded.map(|bit| if bit == 0 { 20 } else { -20 }));
+///
+/// let at = |first_cce, level| Candidate { first_cce, level, a: 40, rnti: 0x4601 };
+/// let list = [at(0, 8), at(0, 2), at(2, 2), at(4, 2), at(6, 2)];
+/// let mut payload = [9; MAX_PAYLOAD];
+/// let found = search(500, &region, &list, &mut payload)?;
+/// assert_eq!((found.candidate, found.size), (3, 40));
+/// assert_eq!((&payload[..40], &payload[40..]), (&sent[..], &[9; 100][..]));
+/// assert!(std::ptr::eq(found.stretch, &region[4 * CCE..6 * CCE]));
+///
+/// let refusal = search(500, &region, &list[..3], &mut payload);
+/// assert_eq!(refusal, Err(Refusal::NoCandidate));
+/// # Ok::<(), Refusal>(())
+/// ```
+///
+/// # Errors
+/// The first that applies of [`Refusal::InputLength`], [`Refusal::OutputLength`] and
+/// [`Refusal::NoCandidate`]; an empty region or list gives the last.
+pub fn search<'a>(
+    n_id: u16,
+    region: &'a [i32],
+    candidates: &[Candidate],
+    payload: &mut [u8],
+) -> Result<Found<'a>, Refusal> {
+    // SAFETY: as in `encode`. A candidate is four numbers without room between them, so the list is
+    // valid as numbers too; a slice has at most isize::MAX bytes, so four times its length cannot wrap.
+    let answer = unsafe {
+        spelt_search_list(
+            n_id,
+            region.as_ptr(),
+            region.len(),
+            candidates.as_ptr().cast(),
+            4 * candidates.len(),
+            payload.as_mut_ptr(),
+            payload.len(),
+        )
+    };
+    let candidate = named(answer)?;
+    let found = candidates[candidate];
+    let start = CCE * found.first_cce as usize;
+    Ok(Found {
+        candidate,
+        size: found.a as usize,
+        stretch: &region[start..start + CCE * found.level as usize],
+    })
 }
 
 /// Writes what each of the positions 0..=511 of the code for `a` and `e` is for into `out`: 0 frozen,
@@ -452,6 +586,19 @@ fn read(answer: u64, last: u64) -> Result<(), Refusal> {
     }
 }
 
+/// Takes apart an answer of the search: the number plus 256 times the candidate.
+fn named(answer: u64) -> Result<usize, Refusal> {
+    match (answer & 255, answer >> 8) {
+        (0, candidate) => Ok(candidate as usize),
+        (4, 0) => Err(Refusal::InputLength),
+        (5, 0) => Err(Refusal::OutputLength),
+        (8, 0) => Err(Refusal::NoCandidate),
+        (number, candidate) => {
+            panic!("the search answered {number} with candidate {candidate}, which it never does")
+        }
+    }
+}
+
 #[cfg(test)]
 mod tests {
     use super::*;
@@ -466,6 +613,12 @@ mod tests {
         assert_eq!(read(6 + 256 * 1727, 6), Err(Refusal::BadEntry(1727)));
         assert_eq!(Refusal::BadEntry(1727).number(), 6);
         assert_eq!(read(7, 7), Err(Refusal::ParityMismatch));
+        for number in [4, 5, 8] {
+            assert_eq!(u64::from(named(number).unwrap_err().number()), number);
+        }
+        assert_eq!(named(0), Ok(0));
+        assert_eq!(named(256 * 43), Ok(43));
+        assert_eq!(named(8), Err(Refusal::NoCandidate));
     }
 
     #[test]
@@ -474,10 +627,12 @@ mod tests {
             Refusal::BadEntry(7).to_string(),
             "entry 7 of the input is out of range"
         );
-        let texts: std::collections::HashSet<String> = (1..=7)
-            .map(|n| read(n, 7).unwrap_err().to_string())
+        let refusals = (1..=7).map(|n| read(n, 7).unwrap_err());
+        let texts: std::collections::HashSet<String> = refusals
+            .chain([Refusal::NoCandidate])
+            .map(|refusal| refusal.to_string())
             .collect();
-        assert_eq!(texts.len(), 7);
+        assert_eq!(texts.len(), 8);
     }
 
     #[test]
@@ -496,6 +651,24 @@ mod tests {
     #[should_panic(expected = "answered 7 with place 1")]
     fn parity_mismatch_with_a_place_is_not_taken() {
         let _ = read(7 + 256, 7);
+    }
+
+    #[test]
+    #[should_panic(expected = "answered 8 with place 0")]
+    fn no_candidate_is_taken_from_searching_alone() {
+        let _ = read(8, 7);
+    }
+
+    #[test]
+    #[should_panic(expected = "answered 7 with candidate 0")]
+    fn parity_mismatch_is_not_taken_from_searching() {
+        let _ = named(7);
+    }
+
+    #[test]
+    #[should_panic(expected = "answered 8 with candidate 1")]
+    fn candidate_without_a_message_is_not_taken() {
+        let _ = named(8 + 256);
     }
 
     #[test]

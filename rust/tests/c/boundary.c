@@ -24,17 +24,12 @@
 #define _DEFAULT_SOURCE
 
 #include <inttypes.h>
-#include <pthread.h>
 #include <signal.h>
-#include <stdio.h>
-#include <stdlib.h>
-#include <string.h>
-#include <sys/mman.h>
-#include <unistd.h>
 
 #include "speltfeather.h"
+#include "support.h"
 
-enum { MOST = 2100, GUARD = 0x5A, STACK = 65536 };
+enum { MOST = 2100 };
 
 /* What a length must be. */
 enum length { NONE, SIZE_A, SIZE_E, ROLES };
@@ -98,8 +93,8 @@ static uint64_t describe(const struct call *c, const uint8_t *payload,
 
 static struct kind kinds[] = {
     {"encode", encode, SIZE_A, NONE, SIZE_E, 0, 3400, {0}},
-    {"decode", decode, NONE, SIZE_E, SIZE_A, -127, 17000, {0}},
-    {"loopback", loopback, SIZE_A, SIZE_E, SIZE_A, 1, 26000, {0}},
+    {"decode", decode, NONE, SIZE_E, SIZE_A, -127, 19000, {0}},
+    {"loopback", loopback, SIZE_A, SIZE_E, SIZE_A, 1, 28000, {0}},
     {"describe", describe, NONE, NONE, ROLES, 0, 2000, {0}},
 };
 
@@ -140,23 +135,6 @@ static const uint64_t far[] = {
 };
 
 enum { FAR = sizeof far / sizeof *far };
-
-/* ---- random numbers: xorshift64* ---- */
-
-static uint64_t state = 0x9E3779B97F4A7C15u;
-
-static uint64_t any(void)
-{
-    state ^= state >> 12;
-    state ^= state << 25;
-    state ^= state >> 27;
-    return state * 0x2545F4914F6CDD1Du;
-}
-
-static size_t below(size_t bound)
-{
-    return (size_t)((any() >> 16) % bound);
-}
 
 /* ---- what is expected ---- */
 
@@ -241,95 +219,10 @@ static const char *fault(const struct call *c, uint64_t r, const uint8_t *out)
     return NULL;
 }
 
-/* ---- buffers with exactly the room that they need ---- */
-
-enum how { ALLOCATED, SHIFTED, BEFORE_PAGE, BEHIND_PAGE, HOWS };
-
-static const char *const how_names[] = {"allocated",
-                                        "allocated at an odd address",
-                                        "before a page", "behind a page"};
-
-struct room {
-    uint8_t *pages; /* between two that cannot be accessed */
-    uint8_t *block; /* what was allocated, or NULL */
-    uint8_t *start;
-    size_t size;
-};
-
-static size_t page, room_size;
-static struct room payload_room, values_room, out_room;
-
-static void need(int done, const char *what)
-{
-    if (!done) {
-        perror(what);
-        exit(2);
-    }
-}
-
-static uint8_t *mapped(size_t size)
-{
-    void *map = mmap(NULL, size, PROT_NONE, MAP_PRIVATE | MAP_ANONYMOUS, -1, 0);
-    need(map != MAP_FAILED, "mmap");
-    return (uint8_t *)map;
-}
-
-static void protect(uint8_t *start, size_t size, int access)
-{
-    need(mprotect(start, size, access) == 0, "mprotect");
-}
-
-static void make_rooms(void)
-{
-    page = (size_t)sysconf(_SC_PAGESIZE);
-    room_size = (MOST * sizeof(int32_t) / page + 1) * page;
-    payload_room.pages = mapped(room_size + 2 * page) + page;
-    values_room.pages = mapped(room_size + 2 * page) + page;
-    out_room.pages = mapped(room_size + 2 * page) + page;
-}
-
-static uint8_t *put(struct room *room, enum how how, const void *content,
-                    size_t count, size_t entry)
-{
-    room->size = count * entry;
-    room->block = NULL;
-    if (how == ALLOCATED || how == SHIFTED) {
-        size_t shift = how == SHIFTED ? entry : 0;
-        room->block = (uint8_t *)malloc(shift + room->size);
-        need(room->block != NULL, "malloc");
-        room->start = room->block + shift;
-    } else {
-        protect(room->pages, room_size, PROT_READ | PROT_WRITE);
-        memset(room->pages, GUARD, room_size);
-        room->start = room->pages;
-        if (how == BEFORE_PAGE)
-            room->start += room_size - room->size;
-    }
-    memcpy(room->start, content, room->size);
-    return room->start;
-}
-
-static void make_read_only(const struct room *room)
-{
-    if (room->block == NULL)
-        protect(room->pages, room_size, PROT_READ);
-}
-
-/* Whether what surrounds the buffer holds what it held. */
-static int surrounded(const struct room *room)
-{
-    if (room->block != NULL)
-        return 1;
-    const uint8_t *end = room->start + room->size;
-    for (const uint8_t *at = room->pages; at < room->pages + room_size; at++)
-        if ((at < room->start || at >= end) && *at != GUARD)
-            return 0;
-    return 1;
-}
-
 /* ---- calls ---- */
 
 static unsigned long calls;
+static struct room payload_room, values_room, out_room;
 
 /* The call that is being made, for on_access. */
 static const struct call *running;
@@ -609,68 +502,46 @@ static int run_calls(unsigned long count)
 
 /* ---- the stack ---- */
 
-struct job {
+struct threaded {
     const struct call *call;
     uint8_t *out;
-    uintptr_t from; /* where the stack stood before the call */
     uint64_t r;
 };
 
-static void *work(void *argument)
+static void ask_in_thread(void *argument)
 {
-    struct job *job = (struct job *)argument;
-    const struct call *c = job->call;
-    volatile uint8_t here = 0;
-    job->from = (uintptr_t)&here;
-    job->r = c->kind->ask(c, c->payload, c->values, job->out);
-    return NULL;
+    struct threaded *t = (struct threaded *)argument;
+    const struct call *c = t->call;
+    t->r = c->kind->ask(c, c->payload, c->values, t->out);
 }
 
 /* What a call takes of the stack of its own thread. */
-static size_t stack_of(const struct call *c, uint8_t *stack)
+static size_t stack_of_call(const struct call *c)
 {
     static uint8_t out[MOST];
-    struct job job = {c, out, 0, 0};
-    pthread_t thread;
-    pthread_attr_t attributes;
-    size_t untouched = 0;
-
-    memset(stack, GUARD, STACK);
+    struct threaded threaded = {c, out, 0};
     memcpy(out, c->out, c->out_len);
-    need(pthread_attr_init(&attributes) == 0, "pthread_attr_init");
-    need(pthread_attr_setstack(&attributes, stack, STACK) == 0,
-         "pthread_attr_setstack");
-    need(pthread_create(&thread, &attributes, work, &job) == 0,
-         "pthread_create");
-    need(pthread_join(thread, NULL) == 0, "pthread_join");
-    need(pthread_attr_destroy(&attributes) == 0, "pthread_attr_destroy");
+    size_t taken = stack_of(ask_in_thread, &threaded);
     calls++;
-    const char *why = fault(c, job.r, out);
+    const char *why = fault(c, threaded.r, out);
     if (why != NULL)
-        fail(c, "in a thread of 64 kB", why, job.r);
-    while (untouched < STACK && stack[untouched] == GUARD)
-        untouched++;
-    return (size_t)(job.from - (uintptr_t)(stack + untouched));
+        fail(c, "in a thread of 64 kB", why, threaded.r);
+    return taken;
 }
 
 static int run_stack(void)
 {
     static struct call c;
-    uint8_t *stack = mapped(page + STACK) + page;
-    protect(stack, STACK, PROT_READ | PROT_WRITE);
     for (size_t i = 0; i < KINDS; i++) {
-        size_t most = 0, said = kinds[i].stack;
+        size_t most = 0;
         for (size_t k = 0; k < PAIRS; k++) {
             fill(&c, &kinds[i], pairs[k].a, pairs[k].e);
             number_of(&c); /* so that memcpy and memset are linked */
-            size_t taken = stack_of(&c, stack);
+            size_t taken = stack_of_call(&c);
             most = taken > most ? taken : most;
         }
-        printf("%s takes %zu bytes of the stack\n", kinds[i].name, most);
-        if (most > said * 6 / 5 || most < said * 4 / 5) {
-            fprintf(stderr, "the header says %zu\n", said);
+        if (!stack_is(kinds[i].name, most, kinds[i].stack))
             return 1;
-        }
     }
     printf("%lu calls, all as expected\n", calls);
     return 0;
@@ -678,7 +549,9 @@ static int run_stack(void)
 
 int main(int argc, char **argv)
 {
-    make_rooms();
+    payload_room = room_for(MOST);
+    values_room = room_for(MOST * sizeof(int32_t));
+    out_room = room_for(MOST);
     if (argc == 3 && strcmp(argv[1], "calls") == 0)
         return run_calls(strtoul(argv[2], NULL, 10));
     if (argc == 2 && strcmp(argv[1], "stack") == 0)

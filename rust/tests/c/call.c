@@ -1,16 +1,21 @@
 /*
  * call numbers
  * call roles
+ * call limits
  * call version
  * call encode   A E RNTI N_ID OUT_LEN PAYLOAD
  * call decode   A E RNTI N_ID OUT_LEN SOFT
  * call loopback A E RNTI N_ID OUT_LEN PAYLOAD STRENGTHS
  * call describe A E RNTI N_ID OUT_LEN
+ * call search   A E RNTI N_ID OUT_LEN REGION CANDIDATES COUNT
+ * call list     A E RNTI N_ID OUT_LEN REGION NUMBERS
  *
  * One call through the header, from C or C++. The last arguments are lists with
  * a comma behind each entry; the output starts as 9s; describing takes no RNTI
- * and no N_ID. Prints the number, the place and the output; or the numbers of
- * the header in their order, its roles and their count, or its version twice.
+ * and no N_ID, and searching takes N_ID alone. A candidate is four entries.
+ * COUNT may be more than there are. Prints the number, the place or the
+ * candidate, and the output; or the numbers of the header in their order, its
+ * roles and their count, the limits of a search, or its version twice.
  */
 #include <stdio.h>
 #include <stdlib.h>
@@ -18,9 +23,11 @@
 
 #include "speltfeather.h"
 
-enum { MOST = 2048 };
+enum { MOST = 8192 };
 
 static int32_t soft[MOST], strengths[MOST];
+static uint32_t list[MOST];
+static spelt_candidate candidates[MOST / 4];
 static uint8_t payload[MOST], out[MOST];
 
 static size_t values_of(const char *list, int32_t *values)
@@ -43,11 +50,41 @@ static size_t bytes_of(const char *list, uint8_t *bytes)
     return count;
 }
 
+static size_t list_of(const char *text)
+{
+    size_t count = 0;
+    while (*text != '\0' && count < MOST) {
+        char *comma;
+        list[count++] = (uint32_t)strtoul(text, &comma, 10);
+        text = comma + 1;
+    }
+    return count;
+}
+
+static void candidates_of(const char *text)
+{
+    size_t count = list_of(text) / 4;
+    for (size_t i = 0; i < count; i++) {
+        candidates[i].first_cce = list[4 * i];
+        candidates[i].level = list[4 * i + 1];
+        candidates[i].a = list[4 * i + 2];
+        candidates[i].rnti = list[4 * i + 3];
+    }
+}
+
 static int print_numbers(void)
 {
-    printf("%d %d %d %d %d %d %d %d\n", SPELT_DONE, SPELT_PAYLOAD_SIZE,
+    printf("%d %d %d %d %d %d %d %d %d\n", SPELT_DONE, SPELT_PAYLOAD_SIZE,
            SPELT_CODED_LENGTH, SPELT_TOO_MANY_BITS, SPELT_INPUT_LENGTH,
-           SPELT_OUTPUT_LENGTH, SPELT_BAD_ENTRY, SPELT_PARITY_MISMATCH);
+           SPELT_OUTPUT_LENGTH, SPELT_BAD_ENTRY, SPELT_PARITY_MISMATCH,
+           SPELT_NO_CANDIDATE);
+    return 0;
+}
+
+static int print_limits(void)
+{
+    printf("%d %d %d %d\n", SPELT_CCE, SPELT_MAX_CCES, SPELT_MAX_CANDIDATES,
+           SPELT_MAX_PAYLOAD);
     return 0;
 }
 
@@ -65,13 +102,23 @@ static int print_version(void)
     return 0;
 }
 
-static int print_answer(uint64_t r, size_t out_len)
+static int print_answered(uint64_t r, size_t place, size_t out_len)
 {
-    printf("%d %zu ", SPELT_NUMBER(r), SPELT_PLACE(r));
+    printf("%d %zu ", SPELT_NUMBER(r), place);
     for (size_t i = 0; i < out_len; i++)
         putchar('0' + out[i]);
     putchar('\n');
     return 0;
+}
+
+static int print_answer(uint64_t r, size_t out_len)
+{
+    return print_answered(r, SPELT_PLACE(r), out_len);
+}
+
+static int print_found(uint64_t r, size_t out_len)
+{
+    return print_answered(r, SPELT_CANDIDATE(r), out_len);
 }
 
 int main(int argc, char **argv)
@@ -80,6 +127,8 @@ int main(int argc, char **argv)
         return print_numbers();
     if (argc == 2 && strcmp(argv[1], "roles") == 0)
         return print_roles();
+    if (argc == 2 && strcmp(argv[1], "limits") == 0)
+        return print_limits();
     if (argc == 2 && strcmp(argv[1], "version") == 0)
         return print_version();
     if (argc < 7)
@@ -114,5 +163,20 @@ int main(int argc, char **argv)
     }
     if (argc == 7 && strcmp(argv[1], "describe") == 0)
         return print_answer(spelt_describe(a, e, out, out_len), out_len);
+    if (argc == 10 && strcmp(argv[1], "search") == 0) {
+        size_t region_len = values_of(argv[7], soft);
+        size_t count = (size_t)strtoull(argv[9], NULL, 10);
+        candidates_of(argv[8]);
+        return print_found(spelt_search(n_id, soft, region_len, candidates,
+                                        count, out, out_len),
+                           out_len);
+    }
+    if (argc == 9 && strcmp(argv[1], "list") == 0) {
+        size_t region_len = values_of(argv[7], soft);
+        size_t list_len = list_of(argv[8]);
+        return print_found(spelt_search_list(n_id, soft, region_len, list,
+                                             list_len, out, out_len),
+                           out_len);
+    }
     return 2;
 }

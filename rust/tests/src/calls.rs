@@ -14,12 +14,21 @@ pub struct Outcome {
     pub out: Vec<u8>,
 }
 
+/// The number and the place of what the library gives.
+pub fn answer(given: Result<(), Refusal>) -> (u8, usize) {
+    match given {
+        Ok(()) => (0, 0),
+        Err(refusal @ Refusal::BadEntry(place)) => (refusal.number(), place),
+        Err(refusal) => (refusal.number(), 0),
+    }
+}
+
 /// A call, with what the output buffer holds before it.
 pub trait Call: Debug {
     fn out(&self) -> &[u8];
 
     /// Puts the call to the library.
-    fn ask_library(&self, out: &mut [u8]) -> Result<(), Refusal>;
+    fn ask_library(&self, out: &mut [u8]) -> (u8, usize);
 
     /// Puts the call to the reference.
     fn ask_reference(&self, out: &mut [u8]) -> (u8, usize);
@@ -30,11 +39,7 @@ pub trait Call: Debug {
         let mut room = [&GUARD[..], self.out(), &GUARD].concat();
         let end = GUARD.len() + self.out().len();
         let out = &mut room[GUARD.len()..end];
-        let (number, place) = match self.ask_library(out) {
-            Ok(()) => (0, 0),
-            Err(refusal @ Refusal::BadEntry(place)) => (refusal.number(), place),
-            Err(refusal) => (refusal.number(), 0),
-        };
+        let (number, place) = self.ask_library(out);
         let out = out.to_vec();
         assert_eq!(room[..GUARD.len()], GUARD, "written before the buffer");
         assert_eq!(room[end..], GUARD, "written behind the buffer");
@@ -96,8 +101,8 @@ impl Call for Encode {
         &self.out
     }
 
-    fn ask_library(&self, out: &mut [u8]) -> Result<(), Refusal> {
-        speltfeather::encode(&self.numbers, &self.payload, out)
+    fn ask_library(&self, out: &mut [u8]) -> (u8, usize) {
+        answer(speltfeather::encode(&self.numbers, &self.payload, out))
     }
 
     fn ask_reference(&self, out: &mut [u8]) -> (u8, usize) {
@@ -127,8 +132,8 @@ impl Call for Decode {
         &self.out
     }
 
-    fn ask_library(&self, out: &mut [u8]) -> Result<(), Refusal> {
-        speltfeather::decode(&self.numbers, &self.soft, out)
+    fn ask_library(&self, out: &mut [u8]) -> (u8, usize) {
+        answer(speltfeather::decode(&self.numbers, &self.soft, out))
     }
 
     fn ask_reference(&self, out: &mut [u8]) -> (u8, usize) {
@@ -169,8 +174,13 @@ impl Call for Loopback {
         &self.out
     }
 
-    fn ask_library(&self, out: &mut [u8]) -> Result<(), Refusal> {
-        speltfeather::loopback(&self.numbers, &self.payload, &self.strengths, out)
+    fn ask_library(&self, out: &mut [u8]) -> (u8, usize) {
+        answer(speltfeather::loopback(
+            &self.numbers,
+            &self.payload,
+            &self.strengths,
+            out,
+        ))
     }
 
     fn ask_reference(&self, out: &mut [u8]) -> (u8, usize) {
@@ -200,8 +210,8 @@ impl Call for Describe {
         &self.out
     }
 
-    fn ask_library(&self, out: &mut [u8]) -> Result<(), Refusal> {
-        speltfeather::describe(self.a, self.e, out)
+    fn ask_library(&self, out: &mut [u8]) -> (u8, usize) {
+        answer(speltfeather::describe(self.a, self.e, out))
     }
 
     fn ask_reference(&self, out: &mut [u8]) -> (u8, usize) {

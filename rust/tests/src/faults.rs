@@ -15,6 +15,22 @@ pub const FAR: [u64; 8] = [
     u64::MAX,
 ];
 
+/// Soft values that are out of range, some only if all their bits are looked at.
+pub const BAD: [i32; 12] = [
+    128,
+    -128,
+    129,
+    -129,
+    255,
+    256,
+    -256,
+    1 << 16,
+    1 << 24 | 5,
+    i32::MAX,
+    i32::MIN,
+    i32::MIN + 1,
+];
+
 /// A set of the refusals 1 to 6.
 #[derive(Clone, Copy, Debug)]
 pub struct Faults(usize);

@@ -5,10 +5,12 @@ pub mod calls;
 pub mod documents;
 pub mod faults;
 pub mod rows;
+pub mod searches;
 pub mod trials;
 
 pub use calls::{Call, Decode, Describe, Encode, Loopback, Outcome, assert_threads_agree};
 pub use channel::Random;
+pub use searches::{Region, Search};
 
 use speltfeather::Numbers;
 use std::env;

@@ -1,26 +1,10 @@
 //! Refusals of decoding: each at its boundaries, in their order, with the buffer untouched.
 
-use conformance::faults::{self, Faults, length};
+use conformance::faults::{self, BAD, Faults, length};
 use conformance::{Call, Decode, Random, trials};
 use speltfeather::Numbers;
 
 const SEED: u64 = 0x38211;
-
-/// Values that are out of range, some only if all their bits are looked at.
-const BAD: [i32; 12] = [
-    128,
-    -128,
-    129,
-    -129,
-    255,
-    256,
-    -256,
-    1 << 16,
-    1 << 24 | 5,
-    i32::MAX,
-    i32::MIN,
-    i32::MIN + 1,
-];
 
 fn soft_values(count: usize, random: &mut Random) -> Vec<i32> {
     (0..count).map(|_| random.between(-127, 127)).collect()

@@ -137,7 +137,7 @@ fn functions(name: &str) -> Vec<String> {
     let name_of = |line: &str| {
         let (before, rest) = line.split_once("fn ")?;
         let modifiers = ["", "pub ", "pub extern \"C\" "];
-        let name = rest.split_once('(')?.0.to_string();
+        let name = rest.split_once(['(', '<'])?.0.to_string();
         modifiers.contains(&before).then_some(name)
     };
     let lines = sources.iter().flat_map(|source| source.lines());

@@ -1,8 +1,10 @@
 //! The header, as C and C++ compilers read it, declares what the archive exports.
 
-use conformance::Random;
 use conformance::built::{archive, include, is_found, program_of_readme, root, source};
 use conformance::rows::strengths;
+use conformance::searches::any_at;
+use conformance::{Call, Outcome, Random, Region, Search};
+use reference::searching::places;
 use std::fs;
 use std::io::Write;
 use std::path::{Path, PathBuf};
@@ -107,6 +109,86 @@ fn assert_describe(program: &Path, a: u64, e: u64, out_len: usize) {
     });
 }
 
+/// A search of the program must print what the reference gives for it, with as many candidates as
+/// there are, with a count of them, and with the list as numbers.
+fn assert_search(program: &Path, search: &Search) {
+    let region = list(&search.region[..search.region_len]);
+    let numbers = &search.list[..search.list_len];
+    let Outcome { number, place, out } = search.reference();
+    let digits: String = out.iter().map(u8::to_string).collect();
+    let expected = format!("{number} {place} {digits}\n");
+    let ask = |name: &str, count: &[String]| {
+        let unused = ["0", "0", "0"].map(String::from);
+        let lengths = [search.n_id.to_string(), out.len().to_string()];
+        let inputs = [region.clone(), list(numbers)];
+        let name = [name.to_string()];
+        let arguments = [&name[..], &unused, &lengths, &inputs, count].concat();
+        assert_eq!(printed(program, &arguments), expected, "{arguments:?}");
+    };
+    ask("list", &[]);
+    if numbers.len() % 4 == 0 {
+        ask("search", &[(numbers.len() / 4).to_string()]);
+    }
+    if numbers.len() / 4 == 45 {
+        // Counts whose fourfold wraps to 0, 4, 8 and 44 candidates, and the greatest.
+        let quarter = usize::MAX / 4 + 1;
+        for count in [
+            quarter,
+            quarter + 1,
+            quarter + 2,
+            2 * quarter + 44,
+            usize::MAX,
+        ] {
+            ask("search", &[count.to_string()]);
+        }
+    }
+}
+
+fn assert_searches(program: &Path, random: &mut Random) {
+    let all = places(64);
+    for last in [0, 1, 9, 43] {
+        let mut region = Region::noise(64, random);
+        let candidates: Vec<_> = (0..=last)
+            .map(|_| any_at(random.pick(&all), random))
+            .collect();
+        let mut search = Search::of(&region, &candidates, random);
+        search.out.fill(9);
+        assert_search(program, &search);
+        region.send(&candidates[last], random);
+        search.region = region.values;
+        assert_search(program, &search);
+        search.out.pop();
+        assert_search(program, &search);
+        search.list_len -= 1;
+        assert_search(program, &search);
+        search.region_len -= 1;
+        assert_search(program, &search);
+    }
+    assert_wrong_counts(program, random);
+}
+
+/// Lists that are empty or too long, and candidates that would be taken for others if a number were
+/// cut short.
+fn assert_wrong_counts(program: &Path, random: &mut Random) {
+    let mut region = Region::noise(16, random);
+    let candidate = any_at(places(16)[30], random);
+    region.send(&candidate, random);
+    let mut search = Search::of(&region, &[candidate; 46], random);
+    search.out.fill(9);
+    for count in [0, 1, 44, 45, 46] {
+        search.list_len = 4 * count;
+        assert_search(program, &search);
+    }
+    search.list_len = 4;
+    for field in 0..4 {
+        for far in [1 << 16, 1 << 30, 1 << 31] {
+            let mut other = search.clone();
+            other.list[field] += far;
+            assert_search(program, &other);
+        }
+    }
+}
+
 const PAIRS: [(u64, u64); 5] = [(12, 108), (84, 108), (70, 216), (140, 432), (37, 1728)];
 
 fn assert_coding(program: &Path, random: &mut Random) {
@@ -175,7 +257,9 @@ fn assert_describing(program: &Path) {
 fn assert_language(compiler: &str, language: &[&str], name: &str) {
     let program = build(compiler, language, name);
     let numbers = printed(&program, &["numbers".into()]);
-    assert_eq!(numbers, "0 1 2 3 4 5 6 7\n");
+    assert_eq!(numbers, "0 1 2 3 4 5 6 7 8\n");
+    let limits = printed(&program, &["limits".into()]);
+    assert_eq!(limits, "108 64 44 140\n");
     let roles = printed(&program, &["roles".into()]);
     assert_eq!(roles, "0 1 2 3 4 512\n");
     let version = env!("CARGO_PKG_VERSION");
@@ -186,6 +270,7 @@ fn assert_language(compiler: &str, language: &[&str], name: &str) {
     assert_decoding(&program, &mut random);
     assert_loopbacks(&program, &mut random);
     assert_describing(&program);
+    assert_searches(&program, &mut random);
 }
 
 #[test]
@@ -209,6 +294,16 @@ int number(uint64_t r);
 int number(uint64_t r) { return SPELT_NUMBER(r); }
 size_t place(uint64_t r);
 size_t place(uint64_t r) { return SPELT_PLACE(r); }
+size_t candidate(uint64_t r);
+size_t candidate(uint64_t r) { return SPELT_CANDIDATE(r); }
+uint64_t search(const int32_t *region, size_t cces, const spelt_candidate *list,
+                size_t count, uint8_t *out);
+uint64_t search(const int32_t *region, size_t cces, const spelt_candidate *list,
+                size_t count, uint8_t *out)
+{
+    return spelt_search(500, region, SPELT_CCE * cces, list, count, out,
+                        SPELT_MAX_PAYLOAD);
+}
 ";
 
 /// A compiler's languages, its standards of each, and the names that it may have.
@@ -264,6 +359,8 @@ fn is_taken(compiler: &str, language: &str, standard: &str, text: &str) -> bool 
 #[test]
 fn every_standard_takes_the_header() {
     assert_taken("the header", LONE);
+    // Older than the examples, which need C++11.
+    assert!(is_taken("c++", "c++", "-std=c++98", LONE));
 }
 
 #[test]

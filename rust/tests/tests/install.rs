@@ -83,13 +83,15 @@ fn what_is_installed_builds_the_examples() {
         [env!("CARGO_PKG_VERSION")]
     );
 
-    let example = room.join("roundtrip.c");
-    fs::copy(root().join("examples/c/roundtrip.c"), &example).expect("the example");
-    let said = built(&example, &prefix);
-    assert!(said.ends_with("another RNTI: no message\n"), "{said}");
+    for name in ["roundtrip.c", "search.c"] {
+        let example = room.join(name);
+        fs::copy(root().join("examples/c").join(name), &example).expect("the example");
+        let said = built(&example, &prefix);
+        assert!(said.ends_with("another RNTI: no message\n"), "{said}");
+    }
     let shown = room.join("readme.c");
     fs::write(&shown, program_of_readme()).expect("a file");
-    assert_eq!(built(&shown, &prefix), "a message\n");
+    assert_eq!(built(&shown, &prefix), "a message\ncandidate 1\n");
 
     made("uninstall", &prefix);
     assert_eq!(files_in(&prefix), 0);

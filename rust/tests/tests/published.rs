@@ -1,7 +1,8 @@
 //! The library's output against published words (sources 001 and 002 of docs/SOURCES.md), and against
 //! the cases of document 01 there that are not marked.
 
-use conformance::{Call, Decode, Encode, Random, sent_bits};
+use conformance::searches::at;
+use conformance::{Call, Decode, Encode, Random, Region, Search, sent_bits};
 use reference::{Kind, Layout, construction, layout, noiseless, published, rate_matching};
 use reference::{scrambling, selected};
 use speltfeather::Numbers;
@@ -84,6 +85,23 @@ fn recorded_message_is_read_through_errors() {
             .for_each(|value| *value = 0);
         let outcome = Decode::fitting(numbers, soft, &mut random).compared();
         assert_eq!((outcome.number, &outcome.out), (0, &payload), "n_ID {n_id}");
+    }
+}
+
+#[test]
+fn hardware_word_is_found() {
+    let mut random = Random::new(SEED);
+    let sent = rate_matching::matched(
+        &published::hardware_layout(),
+        &published::hardware_code_word(),
+    );
+    let payload = published::hardware_payload().expect("a code word");
+    for cce in 0..8 {
+        let mut region = Region::noise(8, &mut random);
+        let soft = noiseless(&scrambling::scrambled(&sent, region.n_id), &[1; 108]);
+        region.values[108 * cce..108 * (cce + 1)].copy_from_slice(&soft);
+        let list: Vec<_> = (0..8).map(|first| at(first, 1, 78, 0)).collect();
+        Search::of(&region, &list, &mut random).expect_message(cce, &payload);
     }
 }
 

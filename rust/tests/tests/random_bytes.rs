@@ -3,10 +3,11 @@
 //!
 //! `make robust` shows what was given; CALLS and SEED make the run longer or another.
 
+use conformance::calls::answer;
 use conformance::faults::FAR;
-use conformance::{Outcome, Random, accepted_pairs, rows, setting, trials};
+use conformance::{Outcome, Random, accepted_pairs, rows, searches, setting, trials};
 use reference::CODED_LENGTHS;
-use speltfeather::{Numbers, Refusal};
+use speltfeather::{Candidate, Numbers};
 use std::ops::Range;
 use std::sync::atomic::{AtomicU64, Ordering};
 use std::thread;
@@ -15,13 +16,14 @@ use std::thread;
 const CHUNK: u64 = 10_000;
 
 /// The greatest length of a buffer.
-const MOST: usize = 2100;
+const MOST: usize = 3600;
 
 /// The accepted pairs with E = 108 or 216, which come first.
 const SHORT: usize = 73 + 129;
 
 /// What the entries around a buffer hold.
 const GUARD: u8 = 0x5A;
+const NUMBER_GUARD: u32 = 0x5A5A_5A5A;
 
 /// What a call reads. What it has no use for is empty.
 #[derive(Clone, Copy)]
@@ -29,6 +31,7 @@ struct Inputs<'a> {
     numbers: Numbers,
     payload: &'a [u8],
     values: &'a [i32],
+    list: &'a [Candidate],
 }
 
 /// The lengths that a call asks for; none for what it does not read.
@@ -46,11 +49,12 @@ struct Subject {
     asks: fn(&Numbers) -> Asked,
     /// Values that it takes, as many as are wanted.
     values: fn(&Numbers, usize, &mut Random) -> Vec<i32>,
-    library: fn(Inputs, &mut [u8]) -> Result<(), Refusal>,
+    list: fn(&Numbers, &mut Random) -> Vec<Candidate>,
+    library: fn(Inputs, &mut [u8]) -> (u8, usize),
     reference: fn(Inputs, &mut [u8]) -> (u8, usize),
 }
 
-const SUBJECTS: [Subject; 4] = [
+const SUBJECTS: [Subject; 5] = [
     Subject {
         name: "encode",
         given: &[0, 1, 2, 3, 4, 5, 6],
@@ -60,7 +64,8 @@ const SUBJECTS: [Subject; 4] = [
             out: numbers.e,
         },
         values: |_, _, _| vec![],
-        library: |x, out| speltfeather::encode(&x.numbers, x.payload, out),
+        list: |_, _| vec![],
+        library: |x, out| answer(speltfeather::encode(&x.numbers, x.payload, out)),
         reference: |x, out| {
             let Numbers { a, e, rnti, n_id } = x.numbers;
             reference::encode(a, e, rnti, n_id, x.payload, out)
@@ -75,7 +80,8 @@ const SUBJECTS: [Subject; 4] = [
             out: numbers.a,
         },
         values: soft_values,
-        library: |x, out| speltfeather::decode(&x.numbers, x.values, out),
+        list: |_, _| vec![],
+        library: |x, out| answer(speltfeather::decode(&x.numbers, x.values, out)),
         reference: |x, out| {
             let Numbers { a, e, rnti, n_id } = x.numbers;
             reference::decode(a, e, rnti, n_id, x.values, out)
@@ -90,7 +96,8 @@ const SUBJECTS: [Subject; 4] = [
             out: numbers.a,
         },
         values: |_, count, random| rows::strengths(count, random),
-        library: |x, out| speltfeather::loopback(&x.numbers, x.payload, x.values, out),
+        list: |_, _| vec![],
+        library: |x, out| answer(speltfeather::loopback(&x.numbers, x.payload, x.values, out)),
         reference: |x, out| {
             let Numbers { a, e, rnti, n_id } = x.numbers;
             reference::loopback(a, e, rnti, n_id, x.payload, x.values, out)
@@ -105,13 +112,34 @@ const SUBJECTS: [Subject; 4] = [
             out: 512,
         },
         values: |_, _, _| vec![],
-        library: |x, out| speltfeather::describe(x.numbers.a, x.numbers.e, out),
+        list: |_, _| vec![],
+        library: |x, out| answer(speltfeather::describe(x.numbers.a, x.numbers.e, out)),
         reference: |x, out| reference::describe(x.numbers.a, x.numbers.e, out),
+    },
+    Subject {
+        name: "search",
+        given: &[0, 4, 5, 8],
+        asks: |numbers| Asked {
+            payload: None,
+            values: Some(numbers.e.saturating_mul(2)),
+            out: 140,
+        },
+        values: region,
+        list: candidates,
+        library: |x, out| match speltfeather::search(x.numbers.n_id, x.values, x.list, out) {
+            Ok(found) => (0, found.candidate),
+            Err(refusal) => (refusal.number(), 0),
+        },
+        reference: |x, out| {
+            let list = searches::flat(x.list);
+            let (number, candidate, _) = reference::search(x.numbers.n_id, x.values, &list, out);
+            (number, candidate)
+        },
     },
 ];
 
 /// How often each call gave each number.
-type Tally = [[u64; 8]; SUBJECTS.len()];
+type Tally = [[u64; 9]; SUBJECTS.len()];
 
 /// A payload size at a border, or one that a program with narrower numbers would take for it.
 fn border_size(random: &mut Random) -> u64 {
@@ -184,6 +212,45 @@ fn soft_values(numbers: &Numbers, count: usize, random: &mut Random) -> Vec<i32>
     soft
 }
 
+/// Noise; where there are two stretches of E values, a message in the one that the identity's last bit
+/// says.
+fn region(numbers: &Numbers, count: usize, random: &mut Random) -> Vec<i32> {
+    let mut values: Vec<i32> = (0..count).map(|_| random.between(-127, 127)).collect();
+    if count as u64 == numbers.e.saturating_mul(2) {
+        let start = usize::from(numbers.n_id & 1) * count / 2;
+        values[start..start + count / 2].copy_from_slice(&soft_values(numbers, count / 2, random));
+    }
+    values
+}
+
+/// From a number to one near it, or to one that narrower numbers would take for it.
+const FAR_STEPS: [u32; 6] = [1, 2, 1 << 16, 1 << 30, 1 << 31, u32::MAX];
+
+/// The message of the region, or one that misses it by a number, near it or any.
+fn candidates(numbers: &Numbers, random: &mut Random) -> Vec<Candidate> {
+    let Numbers { a, e, rnti, n_id } = *numbers;
+    let level = (e / 108) as u32;
+    let right = [u32::from(n_id & 1) * level, level, a as u32, rnti.into()];
+    let candidate = |random: &mut Random| {
+        let mut numbers = right;
+        if random.below(2) == 0 {
+            let number = &mut numbers[random.below(4)];
+            *number = match random.below(3) {
+                0 => random.u64() as u32,
+                1 => number.wrapping_add(random.pick(&FAR_STEPS)),
+                _ => random.below(150) as u32,
+            };
+        }
+        let [first_cce, level, a, rnti] = numbers;
+        searches::at(first_cce, level, a, rnti)
+    };
+    let count = match random.below(64) {
+        0..4 => random.between(44, 60),
+        _ => random.between(0, 6),
+    };
+    (0..count).map(|_| candidate(random)).collect()
+}
+
 /// Mostly values that the call takes; else any, everywhere or at a place.
 fn values(subject: &Subject, numbers: &Numbers, count: usize, random: &mut Random) -> Vec<i32> {
     let any = |random: &mut Random| match random.below(2) {
@@ -206,6 +273,7 @@ struct Case {
     numbers: Numbers,
     payload: Vec<u8>,
     values: Vec<i32>,
+    list: Vec<Candidate>,
     out: Vec<u8>,
 }
 
@@ -221,6 +289,7 @@ impl Case {
             numbers,
             payload: payload(payload_len, random),
             values: values(subject, &numbers, values_len, random),
+            list: (subject.list)(&numbers, random),
             out: random.bytes(out_len),
         }
     }
@@ -231,6 +300,7 @@ impl Case {
             numbers: self.numbers,
             payload: &self.payload,
             values: &self.values,
+            list: &self.list,
         };
         let (number, place) = (subject.reference)(inputs, &mut out);
         Outcome { number, place, out }
@@ -241,22 +311,23 @@ impl Case {
     fn library(&self, subject: &Subject, random: &mut Random) -> Outcome {
         let payload = Room::of(&self.payload, GUARD, random);
         let values = Room::of(&self.values, i32::from(GUARD), random);
+        let guard = searches::at(NUMBER_GUARD, NUMBER_GUARD, NUMBER_GUARD, NUMBER_GUARD);
+        let list = Room::of(&self.list, guard, random);
         let mut out = Room::of(&self.out, GUARD, random);
         let inputs = Inputs {
             numbers: self.numbers,
             payload: payload.content(),
             values: values.content(),
+            list: list.content(),
         };
-        let (number, place) = match (subject.library)(inputs, out.content_mut()) {
-            Ok(()) => (0, 0),
-            Err(refusal @ Refusal::BadEntry(place)) => (refusal.number(), place),
-            Err(refusal) => (refusal.number(), 0),
-        };
+        let (number, place) = (subject.library)(inputs, out.content_mut());
         assert!(payload.guards_hold(), "written beside the payload");
         assert!(values.guards_hold(), "written beside the values");
+        assert!(list.guards_hold(), "written beside the list");
         assert!(out.guards_hold(), "written beside the output");
         assert_eq!(payload.content(), self.payload, "the payload is written");
         assert_eq!(values.content(), self.values, "the values are written");
+        assert_eq!(list.content(), self.list, "the list is written");
         let out = out.content().to_vec();
         Outcome { number, place, out }
     }
@@ -337,9 +408,9 @@ fn chunk(seed: u64, accepted: &[(u64, u64)]) -> Tally {
 }
 
 /// Every number that a call can give must be given often, and 0 more often still.
-fn assert_not_trivial(subject: &Subject, given: &[u64; 8]) {
+fn assert_not_trivial(subject: &Subject, given: &[u64; 9]) {
     let calls: u64 = given.iter().sum();
-    for number in 0..8u8 {
+    for number in 0..9u8 {
         let count = given[usize::from(number)];
         match (subject.given.contains(&number), number) {
             (true, 0) => assert!(count >= calls / 15, "{}: {given:?}", subject.name),
@@ -375,7 +446,7 @@ fn random_bytes_are_answered_as_the_reference_does() {
         .into_iter()
         .for_each(|of_thread| add(&mut tally, of_thread));
     for (subject, given) in SUBJECTS.iter().zip(&tally) {
-        println!("{:8} gave 0 to 7: {given:?}", subject.name);
+        println!("{:8} gave 0 to 8: {given:?}", subject.name);
     }
     let calls: u64 = tally.iter().flatten().sum();
     println!("{calls} calls, all answered as the reference answers them");

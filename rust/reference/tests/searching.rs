@@ -1,0 +1,82 @@
+//! The search of the second program: a message in CCEs 2 and 3 of a region of 4, and what is refused.
+
+use reference::searching::{BUFFER, CCE};
+use reference::{encode, noiseless, search};
+
+const N_ID: u16 = 500;
+/// First CCE, level, A, RNTI.
+const MESSAGE: [u32; 4] = [2, 2, 40, 0x4601];
+
+/// The region and the payload.
+fn region() -> (Vec<i32>, Vec<u8>) {
+    let payload: Vec<u8> = (0..40).map(|i| u8::from(i % 3 == 0)).collect();
+    let mut coded = vec![0; 216];
+    let answer = encode(40, 216, 0x4601, N_ID, &payload, &mut coded);
+    assert_eq!(answer, (0, 0));
+    let mut region = vec![1; 4 * CCE];
+    region[2 * CCE..].copy_from_slice(&noiseless(&coded, &[20; 216]));
+    (region, payload)
+}
+
+/// Number and candidate; on every number but 0 nothing else may be given.
+fn answer(region: &[i32], list: &[[u32; 4]], out_len: usize) -> (u8, usize) {
+    let mut out = vec![9; out_len];
+    let (number, candidate, stretch) = search(N_ID, region, &list.concat(), &mut out);
+    if number != 0 {
+        assert!(stretch.is_empty() && candidate == 0);
+        assert!(out.iter().all(|&byte| byte == 9));
+    }
+    (number, candidate)
+}
+
+#[test]
+fn message_is_found_with_its_stretch() {
+    let (region, payload) = region();
+    let list = [[0, 4, 40, 0x4601], [0, 2, 40, 0x4601], MESSAGE, MESSAGE].concat();
+    let mut out = vec![9; BUFFER];
+    let (number, candidate, stretch) = search(N_ID, &region, &list, &mut out);
+    assert_eq!((number, candidate), (0, 2));
+    assert!(std::ptr::eq(stretch, &region[2 * CCE..]));
+    assert_eq!((&out[..40], &out[40..]), (&payload[..], &[9; 100][..]));
+}
+
+#[test]
+fn candidates_that_do_not_decode() {
+    let (region, _) = region();
+    let others = [
+        [2, 0, 40, 0x4601],
+        [2, 3, 40, 0x4601],
+        [1, 2, 40, 0x4601],
+        [4, 2, 40, 0x4601],
+        [u32::MAX - 1, 2, 40, 0x4601],
+        [2, (1 << 30) + 2, 40, 0x4601],
+        [2, 2, 11, 0x4601],
+        [2, 2, 141, 0x4601],
+        [2, 2, u32::MAX, 0x4601],
+        [2, 1, 85, 0x4601],
+        [2, 2, 40, 0x4602],
+        [2, 2, 40, 0x1_4601],
+    ];
+    for other in others {
+        assert_eq!(answer(&region, &[other], BUFFER), (8, 0), "{other:?}");
+        assert_eq!(answer(&region, &[other, MESSAGE], BUFFER), (0, 1));
+    }
+    let mut bad = region;
+    bad[2 * CCE + 100] = 128;
+    assert_eq!(answer(&bad, &[MESSAGE], BUFFER), (8, 0));
+}
+
+#[test]
+fn refusals() {
+    let (region, _) = region();
+    assert_eq!(answer(&region, &[MESSAGE; 44], BUFFER), (0, 0));
+    assert_eq!(answer(&region, &[MESSAGE; 45], BUFFER - 1), (4, 0));
+    assert_eq!(answer(&region[1..], &[MESSAGE], BUFFER - 1), (4, 0));
+    assert_eq!(answer(&[0; 65 * CCE], &[MESSAGE], BUFFER), (4, 0));
+    assert_eq!(answer(&region, &[MESSAGE], BUFFER - 1), (5, 0));
+    assert_eq!(answer(&[], &[], BUFFER + 1), (5, 0));
+    assert_eq!(answer(&[], &[MESSAGE; 44], BUFFER), (8, 0));
+    assert_eq!(answer(&region, &[], BUFFER), (8, 0));
+    let cut = search(N_ID, &region, &MESSAGE[..3], &mut [0; BUFFER]);
+    assert_eq!((cut.0, cut.1), (4, 0));
+}

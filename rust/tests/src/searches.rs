@@ -1,0 +1,264 @@
+//! Searches that are put to both programs: regions with messages in them, and lists of candidates.
+
+use crate::rows::strengths;
+use crate::trials::coded;
+use crate::{Call, Random};
+use channel::{MOST, received};
+use reference::noiseless;
+use reference::searching::{BUFFER, CCE, Place};
+use speltfeather::{Candidate, Numbers, decode};
+use std::ops::Range;
+use std::ptr;
+
+unsafe extern "C" {
+    // What the header's `spelt_search` and the wrapper's `search` both hand over to.
+    fn spelt_search_list(
+        n_id: u16,
+        region: *const i32,
+        region_len: usize,
+        candidates: *const u32,
+        candidates_len: usize,
+        out: *mut u8,
+        out_len: usize,
+    ) -> u64;
+}
+
+/// What is added to a number that 8, 16 or 31 of its bits would be taken for, or, where it is
+/// multiplied by 108, that a product of 32 bits would be.
+pub const FAR: [u32; 6] = [1 << 8, 1 << 16, 1 << 30, 1 << 31, 3 << 30, 65535 << 16];
+
+/// The numbers that a candidate is read under.
+pub fn numbers_of(candidate: &Candidate, n_id: u16) -> Numbers {
+    Numbers {
+        a: candidate.a.into(),
+        e: CCE as u64 * u64::from(candidate.level),
+        rnti: candidate.rnti as u16,
+        n_id,
+    }
+}
+
+/// A list as numbers, four for each candidate.
+pub fn flat(list: &[Candidate]) -> Vec<u32> {
+    let numbers = |c: &Candidate| [c.first_cce, c.level, c.a, c.rnti];
+    list.iter().flat_map(numbers).collect()
+}
+
+/// Where the values of a candidate stand in its region.
+fn span(candidate: &Candidate) -> Range<usize> {
+    let [start, length] = [candidate.first_cce, candidate.level].map(|cces| CCE * cces as usize);
+    start..start + length
+}
+
+/// The soft values of a region, all scrambled with one identity.
+#[derive(Clone, Debug)]
+pub struct Region {
+    pub n_id: u16,
+    pub values: Vec<i32>,
+}
+
+impl Region {
+    /// So many CCEs of noise.
+    pub fn noise(cces: usize, random: &mut Random) -> Self {
+        Self {
+            n_id: random.u16(),
+            values: (0..CCE * cces)
+                .map(|_| random.between(-MOST, MOST))
+                .collect(),
+        }
+    }
+
+    /// The values of a candidate that lies in the region.
+    pub fn stretch(&self, candidate: &Candidate) -> &[i32] {
+        &self.values[span(candidate)]
+    }
+
+    /// Puts values where the candidate says.
+    fn put(&mut self, candidate: &Candidate, values: &[i32]) {
+        self.values[span(candidate)].copy_from_slice(values);
+    }
+
+    /// Puts a message where the candidate says, whether it may lie there or not, with right signs and
+    /// any strengths; gives its payload.
+    pub fn send(&mut self, candidate: &Candidate, random: &mut Random) -> Vec<u8> {
+        let numbers = numbers_of(candidate, self.n_id);
+        let payload = random.bits(numbers.a as usize);
+        let strengths = strengths(numbers.e as usize, random);
+        self.put(
+            candidate,
+            &noiseless(&coded(&numbers, &payload), &strengths),
+        );
+        payload
+    }
+
+    /// Puts a message there with noise, the amplitude sent being 1.
+    pub fn send_in_noise(&mut self, candidate: &Candidate, noise: f64, random: &mut Random) {
+        let numbers = numbers_of(candidate, self.n_id);
+        let payload = random.bits(numbers.a as usize);
+        let values = received(&coded(&numbers, &payload), noise, 30.0, random);
+        self.put(candidate, &values);
+    }
+}
+
+/// A region to be searched with a list of candidates. Only the fronts of both are handed over, so
+/// that what stands behind could be found by a search that reads too far.
+#[derive(Clone, Debug)]
+pub struct Search {
+    pub n_id: u16,
+    pub region: Vec<i32>,
+    pub region_len: usize,
+    pub list: Vec<u32>,
+    pub list_len: usize,
+    pub out: Vec<u8>,
+}
+
+impl Search {
+    /// A search of the whole region with the whole list, with an output that fits and holds random
+    /// bytes.
+    pub fn of(region: &Region, list: &[Candidate], random: &mut Random) -> Self {
+        Self {
+            n_id: region.n_id,
+            region: region.values.clone(),
+            region_len: region.values.len(),
+            list: flat(list),
+            list_len: 4 * list.len(),
+            out: random.bytes(BUFFER),
+        }
+    }
+
+    fn region(&self) -> &[i32] {
+        &self.region[..self.region_len]
+    }
+
+    fn list(&self) -> &[u32] {
+        &self.list[..self.list_len]
+    }
+
+    /// The candidates that the list has whole.
+    fn candidates(&self) -> Vec<Candidate> {
+        let whole = self.list().chunks_exact(4);
+        whole.map(|n| at(n[0], n[1], n[2], n[3])).collect()
+    }
+
+    /// Asserts that both name this candidate and give this payload, and that the rest of the buffer
+    /// is as it was.
+    pub fn expect_message(&self, candidate: usize, payload: &[u8]) {
+        let outcome = self.compared();
+        let found = (outcome.number, outcome.place);
+        assert_eq!(found, (0, candidate), "{self:?}");
+        let (front, rest) = outcome.out.split_at(payload.len());
+        assert_eq!(front, payload, "{self:?}");
+        assert_eq!(rest, &self.out[payload.len()..], "{self:?}");
+    }
+
+    /// The stretch that an answer hands back must be the caller's own, where its candidate says.
+    fn assert_stretch(&self, number: u8, candidate: usize, stretch: &[i32]) {
+        if number != 0 {
+            assert!(stretch.is_empty() && candidate == 0, "{self:?}");
+            return;
+        }
+        let own = &self.region[span(&self.candidates()[candidate])];
+        assert!(ptr::eq(stretch, own), "{self:?}");
+    }
+
+    /// What the wrapper gives.
+    fn ask_wrapper(&self, out: &mut [u8]) -> (u8, usize) {
+        let list = self.candidates();
+        match speltfeather::search(self.n_id, self.region(), &list, out) {
+            Ok(found) => {
+                assert_eq!(found.size, list[found.candidate].a as usize, "{self:?}");
+                self.assert_stretch(0, found.candidate, found.stretch);
+                (0, found.candidate)
+            }
+            Err(refusal) => (refusal.number(), 0),
+        }
+    }
+}
+
+impl Call for Search {
+    fn out(&self) -> &[u8] {
+        &self.out
+    }
+
+    fn ask_library(&self, out: &mut [u8]) -> (u8, usize) {
+        let (region, list) = (self.region(), self.list());
+        // SAFETY: the pointers come from three slices and stand with their lengths.
+        let answer = unsafe {
+            spelt_search_list(
+                self.n_id,
+                region.as_ptr(),
+                region.len(),
+                list.as_ptr(),
+                list.len(),
+                out.as_mut_ptr(),
+                out.len(),
+            )
+        };
+        let answer = ((answer & 255) as u8, (answer >> 8) as usize);
+        if list.len() % 4 == 0 {
+            let mut other = self.out.clone();
+            assert_eq!(answer, self.ask_wrapper(&mut other), "{self:?}");
+            assert_eq!(out, other, "{self:?}");
+        }
+        answer
+    }
+
+    fn ask_reference(&self, out: &mut [u8]) -> (u8, usize) {
+        let (number, candidate, stretch) =
+            reference::search(self.n_id, self.region(), self.list(), out);
+        self.assert_stretch(number, candidate, stretch);
+        (number, candidate)
+    }
+}
+
+/// A candidate.
+pub fn at(first_cce: u32, level: u32, a: u32, rnti: u32) -> Candidate {
+    Candidate {
+        first_cce,
+        level,
+        a,
+        rnti,
+    }
+}
+
+/// A candidate at a place, with any size that it has room for and any RNTI.
+pub fn any_at(place: Place, random: &mut Random) -> Candidate {
+    let most = if place.level == 1 { 84 } else { 140 };
+    let a = random.between(12, most) as u32;
+    let rnti = u32::from(random.u16());
+    at(place.first_cce as u32, place.level as u32, a, rnti)
+}
+
+/// A candidate of this level at CCE 0.
+pub fn in_front(level: usize, random: &mut Random) -> Candidate {
+    let first_cce = 0;
+    any_at(Place { first_cce, level }, random)
+}
+
+/// So many CCEs of noise with the candidate's message, and its payload.
+pub fn with_message(cces: usize, candidate: &Candidate, random: &mut Random) -> (Region, Vec<u8>) {
+    let mut region = Region::noise(cces, random);
+    let payload = region.send(candidate, random);
+    (region, payload)
+}
+
+/// Whether the library's decoder accepts the candidate's own row.
+pub fn is_decoded(region: &Region, candidate: &Candidate) -> bool {
+    let mut out = vec![0; candidate.a as usize];
+    let numbers = numbers_of(candidate, region.n_id);
+    decode(&numbers, region.stretch(candidate), &mut out).is_ok()
+}
+
+/// Each of `others` does not decode, alone or before the candidate that does.
+pub fn assert_passed_over(
+    region: &Region,
+    candidate: Candidate,
+    payload: &[u8],
+    others: &[Candidate],
+    random: &mut Random,
+) {
+    Search::of(region, &[candidate], random).expect_message(0, payload);
+    for &other in others {
+        Search::of(region, &[other], random).expect(8, 0);
+        Search::of(region, &[other, candidate], random).expect_message(1, payload);
+    }
+}
