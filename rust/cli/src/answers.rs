@@ -2,7 +2,7 @@
 
 use speltfeather::Refusal;
 
-/// A number with its names and its meaning in coding and decoding.
+/// A number with its names and its meaning in coding, decoding and searching.
 pub struct Answer {
     pub number: u8,
     pub c: &'static str,
@@ -11,12 +11,13 @@ pub struct Answer {
 }
 
 /// In the order in which they are tested.
-pub const ANSWERS: [Answer; 8] = [
+pub const ANSWERS: [Answer; 9] = [
     Answer {
         number: 0,
         c: "SPELT_DONE",
-        rust: "Ok(())",
-        meaning: "done: the output holds E bits (coding) or A bits (decoding)",
+        rust: "Ok",
+        meaning: "done: the output holds E bits (coding) or A bits (decoding); searching: its first A \
+                  bytes, and the candidate is named",
     },
     Answer {
         number: 1,
@@ -40,13 +41,14 @@ pub const ANSWERS: [Answer; 8] = [
         number: 4,
         c: "SPELT_INPUT_LENGTH",
         rust: "Refusal::InputLength",
-        meaning: "the input's length is not A (coding) or E (decoding)",
+        meaning: "the input's length is not A (coding) or E (decoding); searching: the region is not \
+                  0 to 64 whole CCEs, or there are more than 44 candidates",
     },
     Answer {
         number: 5,
         c: "SPELT_OUTPUT_LENGTH",
         rust: "Refusal::OutputLength",
-        meaning: "the output's length is not E (coding) or A (decoding)",
+        meaning: "the output's length is not E (coding), A (decoding) or 140 (searching)",
     },
     Answer {
         number: 6,
@@ -60,6 +62,12 @@ pub const ANSWERS: [Answer; 8] = [
         c: "SPELT_PARITY_MISMATCH",
         rust: "Refusal::ParityMismatch",
         meaning: "decoding ran, and the parity does not match: no message under these numbers",
+    },
+    Answer {
+        number: 8,
+        c: "SPELT_NO_CANDIDATE",
+        rust: "Refusal::NoCandidate",
+        meaning: "no candidate accepted",
     },
 ];
 
@@ -94,5 +102,6 @@ mod tests {
         }
         assert!(meaning(Refusal::ParityMismatch).contains("parity"));
         assert!(meaning(Refusal::BadEntry(3)).contains("place"));
+        assert!(meaning(Refusal::NoCandidate).contains("candidate"));
     }
 }

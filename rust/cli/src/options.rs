@@ -1,9 +1,11 @@
 //! The command line: options with a value each, and at most one operand.
 
 use crate::failure::Failure;
-use crate::text::{behind, shown};
+use crate::text::{number, shown};
 use speltfeather::Numbers;
+use std::borrow::Cow;
 use std::ffi::{OsStr, OsString};
+use std::os::unix::ffi::OsStrExt;
 
 /// An option or an operand, what must be given for it, and its lines of the help.
 #[derive(Debug)]
@@ -70,8 +72,8 @@ const LEVELS: [(&str, u64); 5] = [("1", 108), ("2", 216), ("4", 432), ("8", 864)
 /// What stood on the command line.
 #[derive(Debug, Default)]
 pub struct Options {
-    values: Vec<(&'static str, String)>,
-    /// Left as it was given, since a file's name need not be text.
+    /// These and the operand are left as they were given, since a file's name need not be text.
+    values: Vec<(&'static str, OsString)>,
     pub operand: Option<OsString>,
 }
 
@@ -95,7 +97,7 @@ impl Options {
             } else if text == "--" {
                 ended = true;
             } else {
-                options.take_option(known, &text, &mut words)?;
+                options.take_option(known, word, &mut words)?;
             }
         }
         Ok(options)
@@ -105,20 +107,16 @@ impl Options {
     fn take_option<'a>(
         &mut self,
         known: &[&Known],
-        word: &str,
+        word: &OsStr,
         words: &mut impl Iterator<Item = &'a OsString>,
     ) -> Result<(), Failure> {
-        let (name, inline) = match word.split_once('=') {
-            Some((name, value)) => (name, Some(value.to_string())),
-            None => (word, None),
-        };
+        let (name, inline) = split(word);
         let option = known.iter().find(|option| option.name == name);
-        let option = option.ok_or_else(|| unknown(name, known))?;
-        let next = || words.next().map(|word| word.to_string_lossy().into_owned());
-        let Some(value) = inline.or_else(next) else {
+        let option = option.ok_or_else(|| unknown(&name, known))?;
+        let Some(value) = inline.or_else(|| words.next().cloned()) else {
             return Err(wrong(&format!("{name} has no value"), option));
         };
-        if self.text(option).is_some() {
+        if self.value(option).is_some() {
             return Err(Failure::Usage(format!(
                 "{name} stands twice: expected once"
             )));
@@ -147,30 +145,31 @@ impl Options {
     }
 
     /// The value of an option, if it was given.
-    pub fn text(&self, option: &Known) -> Option<&str> {
+    fn value(&self, option: &Known) -> Option<&OsStr> {
         let given = self.values.iter().find(|(name, _)| *name == option.name)?;
         Some(&given.1)
     }
 
-    /// The value of an option that must be given.
-    pub fn needed(&self, option: &Known) -> Result<&str, Failure> {
+    /// The same as text.
+    fn text(&self, option: &Known) -> Option<Cow<'_, str>> {
+        self.value(option).map(OsStr::to_string_lossy)
+    }
+
+    /// The value of an option that must be given, as text.
+    pub fn needed(&self, option: &Known) -> Result<Cow<'_, str>, Failure> {
+        self.needed_file(option).map(OsStr::to_string_lossy)
+    }
+
+    /// The file that an option names, which must be given.
+    pub fn needed_file(&self, option: &Known) -> Result<&OsStr, Failure> {
         let missing = || wrong(&format!("{} is missing", option.name), option);
-        self.text(option).ok_or_else(missing)
+        self.value(option).ok_or_else(missing)
     }
 
     /// A number of up to `bits` bits, decimal or hexadecimal.
     pub fn number(&self, option: &Known, bits: u32) -> Result<u64, Failure> {
-        let text = self.needed(option)?;
-        let (digits, radix) = match behind(text, 'x') {
-            Some(digits) => (digits, 16),
-            None => (text, 10),
-        };
-        match u64::from_str_radix(digits, radix) {
-            Ok(value) if !digits.starts_with('+') && (bits == 64 || value >> bits == 0) => {
-                Ok(value)
-            }
-            _ => Err(wrong(&self.given(option), option)),
-        }
+        let value = number(&self.needed(option)?, bits);
+        value.ok_or_else(|| wrong(&self.given(option), option))
     }
 
     /// A and E.
@@ -180,7 +179,7 @@ impl Options {
 
     /// E, which either of two options gives.
     fn length(&self) -> Result<u64, Failure> {
-        match (self.text(&LENGTH), self.text(&LEVEL)) {
+        match (self.value(&LENGTH), self.value(&LEVEL)) {
             (Some(_), None) => self.number(&LENGTH, 64),
             (None, Some(_)) => self.choice(&LEVEL, &LEVELS),
             (Some(_), Some(_)) => Err(Failure::Usage(
@@ -195,13 +194,13 @@ impl Options {
 
     /// The option that E came of, as it was given.
     pub fn given_length(&self) -> String {
-        let by_level = self.text(&LEVEL).is_some();
+        let by_level = self.value(&LEVEL).is_some();
         self.given(if by_level { &LEVEL } else { &LENGTH })
     }
 
     /// An option as it was given.
     fn given(&self, option: &Known) -> String {
-        let value = shown(self.text(option).unwrap_or_default());
+        let value = shown(self.value(option).unwrap_or_default());
         format!("{} {value}", option.name)
     }
 
@@ -223,6 +222,14 @@ impl Options {
             None => Err(wrong(&self.given(option), option)),
         }
     }
+}
+
+/// The name of an option, and what stands behind = in the same word.
+fn split(word: &OsStr) -> (Cow<'_, str>, Option<OsString>) {
+    let mut parts = word.as_bytes().splitn(2, |byte| *byte == b'=');
+    let mut part = || parts.next().map(OsStr::from_bytes);
+    let name = part().unwrap_or_default().to_string_lossy();
+    (name, part().map(OsStr::to_owned))
 }
 
 /// A complaint that names the option and what was expected.

@@ -79,6 +79,28 @@ pub fn is_separator(c: char) -> bool {
     c.is_whitespace() || ",;[](){}\u{feff}".contains(c)
 }
 
+/// The words of each line, with the number of the line.
+pub fn lines(text: &str) -> impl Iterator<Item = (usize, impl Iterator<Item = &str>)> {
+    (1..).zip(text.lines().map(words))
+}
+
+/// What stands in a line between separators and before a comment.
+fn words(line: &str) -> impl Iterator<Item = &str> {
+    let plain = line.split('#').next().unwrap_or_default();
+    plain.split(is_separator).filter(|word| !word.is_empty())
+}
+
+/// A number of up to `bits` bits, decimal, or hexadecimal behind 0x; none if it is not one.
+pub fn number(text: &str, bits: u32) -> Option<u64> {
+    let (digits, radix) = match behind(text, 'x') {
+        Some(digits) => (digits, 16),
+        None => (text, 10),
+    };
+    let value = u64::from_str_radix(digits, radix).ok()?;
+    let is_taken = !digits.starts_with('+') && (bits == 64 || value >> bits == 0);
+    is_taken.then_some(value)
+}
+
 /// How many bytes an error shows of what was given, before it says that there is more.
 const SHOWN: usize = 100;
 

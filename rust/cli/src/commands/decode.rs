@@ -5,11 +5,8 @@ use crate::commands::Command;
 use crate::failure::Failure;
 use crate::options::{ID, Known, LENGTH, LEVEL, Options, RNTI, SIZE};
 use crate::soft::{self, Soft};
-use crate::{streams, text};
+use crate::{inputs, text};
 use speltfeather::{Numbers, Refusal};
-use std::ffi::OsStr;
-use std::fs::File;
-use std::io::{self, IsTerminal, Read};
 
 const AS: Known = Known {
     name: "--as",
@@ -57,10 +54,6 @@ text, or if the output cannot be written
     run,
 };
 
-/// As many bytes of text are read and no more: 1,728 soft values with many comments are less, and an
-/// input that never ends comes to an end.
-const MOST: u64 = 1 << 20;
-
 fn run(options: &Options) -> Result<String, Failure> {
     let numbers = options.numbers()?;
     let show = options.choice(
@@ -70,8 +63,9 @@ fn run(options: &Options) -> Result<String, Failure> {
             ("bits", text::digits),
         ],
     )?;
-    let soft = read(options.operand.as_deref())?;
-    let values: Vec<i32> = soft.iter().map(|soft| soft.value).collect();
+    let row = inputs::read(options.operand.as_deref(), "soft values", COMMAND.name)?;
+    let soft = soft::read(&row)?;
+    let values = soft::values(&soft);
     // An A that no buffer should be made for is refused before its length counts.
     let mut payload = vec![0; numbers.a.min(140) as usize];
     speltfeather::decode(&numbers, &values, &mut payload).map_err(|refusal| {
@@ -79,35 +73,6 @@ fn run(options: &Options) -> Result<String, Failure> {
         Failure::Answer(refusal, text)
     })?;
     Ok(text::joined(&[show(&payload)]))
-}
-
-/// The soft values of a file, or of standard input.
-fn read(file: Option<&OsStr>) -> Result<Vec<Soft>, Failure> {
-    let (source, input) = match file.filter(|file| *file != "-") {
-        Some(path) => (text::shown(path), File::open(path)),
-        None => ("standard input".into(), standard_input()),
-    };
-    let bytes = input.and_then(read_bounded).map_err(|error| {
-        Failure::File(format!("{source}: expected a file of soft values: {error}"))
-    })?;
-    soft::read(&String::from_utf8_lossy(&bytes), &source)
-}
-
-fn standard_input() -> io::Result<File> {
-    let input = io::stdin();
-    if input.is_terminal() {
-        streams::say("dci decode: reading soft values from the keyboard; end them with Ctrl-D");
-    }
-    streams::file(&input)
-}
-
-fn read_bounded(input: File) -> io::Result<Vec<u8>> {
-    let mut bytes = Vec::new();
-    input.take(MOST + 1).read_to_end(&mut bytes)?;
-    match bytes.len() as u64 > MOST {
-        true => Err(io::Error::other(format!("it has more than {MOST} bytes"))),
-        false => Ok(bytes),
-    }
 }
 
 fn explained(refusal: Refusal, numbers: &Numbers, length: &str, soft: &[Soft]) -> String {
@@ -124,15 +89,7 @@ fn explained(refusal: Refusal, numbers: &Numbers, length: &str, soft: &[Soft]) -
             "soft value {place}, counted from 0, is {} (line {}): expected -127 to 127",
             soft[place].value, soft[place].line
         ),
-        Refusal::ParityMismatch => mismatch(soft),
+        Refusal::ParityMismatch => format!("{}{}", meaning(refusal), soft::hint(soft)),
         other => other.to_string(),
     }
-}
-
-fn mismatch(soft: &[Soft]) -> String {
-    let hint = match soft.iter().all(|soft| matches!(soft.value, 0 | 1)) {
-        true => "\nall values are 0 or 1: are they bits? `dci encode --as soft` prints soft values",
-        false => "",
-    };
-    format!("{}{hint}", meaning(Refusal::ParityMismatch))
 }

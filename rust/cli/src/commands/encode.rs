@@ -52,7 +52,7 @@ enum Form {
 
 fn run(options: &Options) -> Result<String, Failure> {
     let numbers = options.numbers()?;
-    let payload = text::payload(options.needed(&PAYLOAD)?, numbers.a)?;
+    let payload = text::payload(&options.needed(&PAYLOAD)?, numbers.a)?;
     let forms = [
         ("hex", Form::Hex),
         ("bits", Form::Bits),

@@ -5,6 +5,7 @@ mod decode;
 mod encode;
 pub mod help;
 mod info;
+mod search;
 mod version;
 
 use crate::failure::Failure;
@@ -49,9 +50,10 @@ impl Command {
     }
 }
 
-pub static COMMANDS: [Command; 6] = [
+pub static COMMANDS: [Command; 7] = [
     encode::COMMAND,
     decode::COMMAND,
+    search::COMMAND,
     info::COMMAND,
     answers::COMMAND,
     help::COMMAND,

@@ -100,6 +100,8 @@ fn errors_show_little_and_nothing_that_a_terminal_acts_on() {
         ("info --size 12 --level", wild.clone()),
         ("decode -- a", wild.clone()),
         (&decode, wild.clone()),
+        ("search --id 1 --candidates", wild.clone()),
+        ("search --id 1 --candidates /dev/null", wild.clone()),
         (&encode, wild.clone()),
         (&encode, format!("5400a0000{}", "0".repeat(9999))),
     ] {
@@ -111,4 +113,12 @@ fn errors_show_little_and_nothing_that_a_terminal_acts_on() {
     let said = ["line 1: `x\\u{1b}2J\\u{7}", "yyy...`"];
     assert_said(&run, "soft values", 66, &said);
     assert_harmless(&dci(&decode, None, &"\0".repeat(9999)), "zeros");
+    let search = "search --id 1 --candidates - /dev/null";
+    for list in [
+        wild.replace(['[', '\r', '\n'], ""),
+        "3 ".repeat(99_999),
+        "0 3 9 9\n".repeat(44),
+    ] {
+        assert_harmless(&dci(search, None, &list), "a list");
+    }
 }

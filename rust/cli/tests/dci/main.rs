@@ -4,6 +4,7 @@ mod files;
 mod levels;
 mod payloads;
 mod run;
+mod search;
 mod streams;
 
 use run::{NUMBERS, SIB1, assert_refused, printed, soft_row};
@@ -119,7 +120,7 @@ fn decoding_names_what_is_wrong_with_a_row() {
 
 #[test]
 fn wrong_command_lines_are_explained() {
-    let all = "encode, decode, info, answers, help or version";
+    let all = "encode, decode, search, info, answers, help or version";
     let cases: [(&str, &[&str]); 6] = [
         ("", &["no command", all]),
         ("encoded", &["`encoded` is not a command", all]),
@@ -205,7 +206,7 @@ fn the_release_is_said() {
 #[test]
 fn the_answers_are_listed() {
     let out = printed("answers", "");
-    for number in 0..=7 {
+    for number in 0..=8 {
         assert!(out.contains(&format!("\n{number}  ")) || out.starts_with(&format!("{number}  ")));
     }
     assert!(out.contains("SPELT_PARITY_MISMATCH") && out.contains("Refusal::BadEntry(place)"));

@@ -51,6 +51,7 @@ fn the_status_is_the_answer_whether_or_not_it_can_be_said() {
         ("nothing".into(), 64),
         ("".into(), 64),
         (format!("decode {NUMBERS} no/such/file"), 66),
+        ("search --id 1 --candidates /dev/null /dev/null".into(), 8),
     ];
     let errors = ["2>&-", "2>/dev/full", "2</dev/null", ">&- 2>&-"];
     for error in errors
@@ -93,6 +94,9 @@ fn a_closed_input_is_no_empty_row() {
         let said = ["standard input: expected a file of soft values"];
         assert_said(&shell(&line), &line, 66, &said);
     }
+    let line = "dci search --id 1 --candidates - /dev/null <&-";
+    let said = ["standard input: expected a file of candidates"];
+    assert_said(&shell(line), line, 66, &said);
     let line = format!("dci decode {NUMBERS} </dev/null");
     assert_said(&shell(&line), &line, 4, &["0 soft values"]);
 }
@@ -106,6 +110,7 @@ fn an_input_without_an_end_is_left() {
         format!("{decode} </dev/zero"),
         format!("yes | {decode}"),
         format!("yes 1 | {decode} -"),
+        "yes 1 | dci search --id 1 --candidates /dev/null".into(),
     ] {
         // Memory for the command and not for much more.
         let line = format!("ulimit -v 100000; {line}");

@@ -1,6 +1,6 @@
 //! The main job on a small real example: the message that announces SIB1, as it was recorded (source
-//! 001 of docs/SOURCES.md), is coded, sent through noise and read back. Then some calls that are
-//! refused, and the self-test on every accepted size.
+//! 001 of docs/SOURCES.md), is coded, sent through noise and read back. Then a handset's search for its
+//! own message, some calls that are refused, and the self-test on every accepted size.
 
 use channel::{Channel, Random};
 use cli::{answers, picture, text};
@@ -13,6 +13,8 @@ macro_rules! say {
         let _ = writeln!(io::stdout(), $($text)*);
     };
 }
+
+mod search;
 
 /// The fields of the recorded message: value and width, most significant bit first.
 const FIELDS: [(u32, u32); 7] = [(168, 9), (0, 4), (0, 1), (5, 5), (0, 2), (0, 1), (0, 15)];
@@ -33,6 +35,7 @@ fn main() {
     let payload = recorded();
     let coded = show_coding(&payload);
     show_noise(&payload, &coded);
+    search::show(&payload);
     show_refusals(&payload, &coded);
     show_self_test();
     say!(
@@ -97,7 +100,7 @@ fn answered(numbers: &Numbers, soft: &[i32]) -> String {
 }
 
 fn show_refusals(payload: &[u8], coded: &[u8]) {
-    say!("\n3. Refused: each call leaves its output buffer as it was\n");
+    say!("\n4. Refused: each call leaves its output buffer as it was\n");
     let mut bad = payload.to_vec();
     bad[5] = 2;
     let mut out = vec![9; 432];
@@ -138,7 +141,7 @@ fn show_refusal(call: &str, answer: Result<(), Refusal>) {
 
 /// Promise 3 on one message for each accepted pair of sizes, with strengths from 1 to 127.
 fn show_self_test() {
-    say!("\n4. Self-test: coded, given uneven strengths, and read back\n");
+    say!("\n5. Self-test: coded, given uneven strengths, and read back\n");
     let mut random = Random::new(SEED);
     let lengths = [108, 216, 432, 864, 1728];
     let pairs = lengths

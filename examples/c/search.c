@@ -1,0 +1,85 @@
+/*
+ * Puts a message into a region of 16 CCEs, and finds it as a handset does that
+ * does not know where it lies.
+ *
+ *   cc search.c $(pkg-config --cflags --libs speltfeather) -o search
+ *
+ * or, from the root of the repository after `make lib`, without installing:
+ *
+ *   cc -Iinclude examples/c/search.c target/staticlib/libspeltfeather.a -o search
+ */
+#include <inttypes.h>
+#include <stdio.h>
+#include <string.h>
+
+#include <speltfeather.h>
+
+enum { CCES = 16, FIRST = 4, LEVEL = 4, A = 40, E = LEVEL * SPELT_CCE };
+
+static const uint16_t own_rnti = 0x4601, another_rnti = 0x4602, n_id = 500;
+
+static int refused(const char *call, uint64_t r)
+{
+    printf("%s: answer %d\n", call, SPELT_NUMBER(r));
+    return 1;
+}
+
+/* In place of noise. */
+static void fill(int32_t *region)
+{
+    for (int k = 0; k < CCES * SPELT_CCE; k++)
+        region[k] = k * 37 % 41 - 20;
+}
+
+static void put(const uint8_t *bits, int32_t *at)
+{
+    for (int k = 0; k < E; k++)
+        at[k] += bits[k] == 0 ? 30 : -30;
+}
+
+/* Every place of levels 8, 4 and 2 that the region has; gives their count. */
+static size_t list_places(uint16_t rnti, spelt_candidate *list)
+{
+    size_t count = 0;
+    for (uint32_t level = 8; level >= 2; level /= 2)
+        for (uint32_t first = 0; first < CCES; first += level) {
+            spelt_candidate place = {first, level, A, rnti};
+            list[count++] = place;
+        }
+    return count;
+}
+
+int main(void)
+{
+    uint8_t payload[A], sent[E], got[SPELT_MAX_PAYLOAD];
+    int32_t region[CCES * SPELT_CCE];
+    spelt_candidate list[SPELT_MAX_CANDIDATES];
+    for (int i = 0; i < A; i++)
+        payload[i] = i % 3 == 0; /* a bit in each byte, first bit first */
+
+    uint64_t r = spelt_encode(A, E, own_rnti, n_id, payload, A, sent, E);
+    if (SPELT_NUMBER(r) != SPELT_DONE)
+        return refused("spelt_encode", r);
+    fill(region);
+    put(sent, region + FIRST * SPELT_CCE);
+
+    size_t count = list_places(own_rnti, list);
+    r = spelt_search(n_id, region, CCES * SPELT_CCE, list, count,
+                     got, SPELT_MAX_PAYLOAD);
+    if (SPELT_NUMBER(r) != SPELT_DONE)
+        return refused("spelt_search", r);
+    const spelt_candidate *found = &list[SPELT_CANDIDATE(r)];
+    printf("candidate %zu of %zu: %" PRIu32 " bits from CCE %" PRIu32
+           ", level %" PRIu32 "\n",
+           SPELT_CANDIDATE(r), count, found->a, found->first_cce, found->level);
+    if (found->first_cce != FIRST || memcmp(got, payload, A) != 0)
+        return 1;
+
+    /* A handset with another RNTI finds no message in the same values. */
+    count = list_places(another_rnti, list);
+    r = spelt_search(n_id, region, CCES * SPELT_CCE, list, count,
+                     got, SPELT_MAX_PAYLOAD);
+    printf("another RNTI: %s\n",
+           SPELT_NUMBER(r) == SPELT_NO_CANDIDATE ? "no message" : "?");
+    return SPELT_NUMBER(r) == SPELT_NO_CANDIDATE ? 0 : 1;
+}
