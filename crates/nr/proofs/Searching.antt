@@ -163,15 +163,12 @@ module _ (n : ℕ) (region : List ℤ) (list out : List ℕ) where
   refused-is zero z e = absurd (z refl)
   refused-is (suc i) z e = ap (λ (r : ℕ). orRefused r out (searched n region list out)) (sym e)
 
-  turned-down : (i : ℕ) → refused ≡ suc i → found (suc i) 0 [] out ≡ answer
-  unfolding searching searchRefusal orRefused
-  turned-down i e = ap (λ (r : ℕ). orRefused r out (searched n region list out)) (sym e)
-
   let-pass : refused ≡ 0 → (d : Bool) → ltb place (length list / 4) ≡ d → cond d (accepted n region list out place) (found 8 0 [] out) ≡ answer
   unfolding searching searchRefusal orRefused searched
   let-pass e d e′ = ap₂ (λ (r : ℕ) (t : Bool). orRefused r out (cond t (accepted n region list out place) (found 8 0 [] out))) (sym e) (sym e′)
 
   pub searching-ends : Ending answer
+  unfolding searchRefusal
   searching-ends = go badSizes refl badBuffer refl (ltb place (length list / 4)) refl
     where
       row : List Bool
@@ -181,9 +178,9 @@ module _ (n : ℕ) (region : List ℤ) (list out : List ℕ) where
       buffer-is = length-is (length out) 140
 
       go : (s : Bool) → badSizes ≡ s → (b : Bool) → badBuffer ≡ b → (d : Bool) → ltb place (length list / 4) ≡ d → Ending answer
-      go true s b b′ d d′ = subst Ending (turned-down 3 (given-by 3 0 row s)) (wrong-sizes (denied badSizes sizes-are .0 s))
+      go true s b b′ d d′ = subst Ending (refused-is 4 (λ z. omega arith) (given-by 3 0 row s)) (wrong-sizes (denied badSizes sizes-are .0 s))
       go false s true b d d′ =
-          subst Ending (turned-down 4 (given-by 3 1 row (s, b))) (wrong-buffer (sizes-are .0 s) (denied badBuffer buffer-is .0 b))
+          subst Ending (refused-is 5 (λ z. omega arith) (given-by 3 1 row (s, b))) (wrong-buffer (sizes-are .0 s) (denied badBuffer buffer-is .0 b))
       go false s false b true d =
           subst Ending (let-pass (nothing 4 row (s, (b, tt))) true d)
           (first-decodes (sizes-are .0 s) (buffer-is .0 b) place (first-below decodesAt (length list / 4) (ltb-true place (length list / 4) d)))
