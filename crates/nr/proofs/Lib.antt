@@ -16,6 +16,7 @@ pub mod Gather
 pub mod SoftRows
 pub mod Matching
 pub mod Scrambling
+pub mod Starts
 pub mod RoundTrip
 pub mod Refusals
 pub mod Promise1

@@ -8,14 +8,12 @@ use mathlib.Core.List.{List, [], _∷_, map}
 use lib.Dec.{T, eqb}
 use lib.IntN.{ℤ, pos, negsuc, natAbs}
 use lib.ListN.{getD, take}
-use Rattle.nr.specs.declared.Numbers.{Numbers}
 use Rattle.nr.specs.declared.RateMatching.the-variants.{Repetition, Puncturing, Shortening}
 use Rattle.nr.specs.declared.Answer.the-variants.{Done, PayloadSize, CodedLength, TooManyBits, InputLength, OutputLength, BadEntry, ParityMismatch}
 use Rattle.nr.specs.Rows.{count, has, bit, all}
 use Rattle.nr.specs.Answer.{number, placeOf}
 use Rattle.nr.specs.Reliability.{reliability}
 use Rattle.nr.specs.Construction.{log2up, n1, n2, n, lowRate, rateMatching, P, front}
-use Rattle.nr.specs.Scrambling.{cInit}
 use Rattle.nr.specs.SuccessiveDecoder.{f, certain, decide}
 use Rattle.nr.specs.Describing.{barredAs}
 use Rattle.nr.proofs.Ints.{natAbs-neg}
@@ -114,7 +112,3 @@ places k = refl
 pub barred-roles : map barredAs (Repetition ∷ Puncturing ∷ Shortening ∷ []) ≡ 2 ∷ 2 ∷ 3 ∷ []
 unfolding barredAs
 barred-roles = refl
-
--- the scrambler starts from n_ID
-pub starts-from-identity : (s : Numbers) → cInit s ≡ s .«n_id»
-starts-from-identity s = refl

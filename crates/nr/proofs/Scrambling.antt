@@ -139,9 +139,14 @@ next1-bit : (s : ℕ) → next1 s ≤ 1
 unfolding next1
 next1-bit s = omega arith
 
-next2-bit : (s : ℕ) → next2 s ≤ 1
+pub next2-bit : (s : ℕ) → next2 s ≤ 1
 unfolding next2
 next2-bit s = omega arith
+
+-- x2's register stays within 31 bits
+pub after2-lt : (i s : ℕ) → s < 2 ^ 31 → after step2 i s < 2 ^ 31
+unfolding step2
+after2-lt = after-lt next2 next2-bit
 
 pub x1-starts : (s j : ℕ) → j ≤ 30 → x1 s j ≡ bit j s
 unfolding step1

@@ -1,4 +1,4 @@
--- Cases of the search, checked by evaluation. They fix what the laws of Searching only name: a candidate's four numbers, where its
+-- Cases of the search, checked by evaluation. They fix what the laws of Searching only name: a candidate's five numbers, where its
 -- row lies, and the numbers that it is decoded under.
 -- Assumes nothing.
 use Prim.Native.Nat.{ℕ, zero, suc}
@@ -20,8 +20,8 @@ use Rattle.nr.specs.Coding.{placed, codeWord, coded, badByte, codingFor,
 use Rattle.nr.specs.Decoding.{decided, received, orParity, badSoft, decodingFor, decoding}
 use Rattle.nr.specs.Searching.{fits, candidateAt, tried, decodes, found, accepted, searched, searchRefusal, orRefused, searching}
 
--- the four numbers of a candidate, in order
-pub candidate-numbers : candidateAt (20 ∷ 21 ∷ 22 ∷ 23 ∷ 24 ∷ 25 ∷ 26 ∷ 27 ∷ []) 1 ≡ record { first = 24; level = 25; a = 26; rnti = 27 }
+-- the five numbers of a candidate, in order
+pub candidate-numbers : candidateAt (20 ∷ 21 ∷ 22 ∷ 23 ∷ 24 ∷ 25 ∷ 26 ∷ 27 ∷ 28 ∷ 29 ∷ []) 1 ≡ record { first = 25; level = 26; a = 27; rnti = 28; «n_rnti» = 29 }
 candidate-numbers = refl
 
 -- ---- a message in CCE 1, behind a value of 128 in CCE 0
@@ -35,14 +35,14 @@ soft (suc b) = negsuc 4
 
 -- the message's noiseless row
 abbrev row : List ℤ
-row = map soft (coding (record { a = 12; e = 108; rnti = 4660; «n_id» = 77 }) payload (replicate 108 0) .buffer)
+row = map soft (coding (record { a = 12; e = 108; rnti = 4660; «n_id» = 77; «n_rnti» = 34952 }) payload (replicate 108 0) .buffer)
 
 abbrev region : List ℤ
 region = pos 128 ∷ replicate 107 (pos 1) ++ row
 
 -- level 2 at CCE 0, which has the value of 128; then level 1 at CCE 1, twice
 abbrev list : List ℕ
-list = 0 ∷ 2 ∷ 12 ∷ 4660 ∷ 1 ∷ 1 ∷ 12 ∷ 4660 ∷ 1 ∷ 1 ∷ 12 ∷ 4660 ∷ []
+list = 0 ∷ 2 ∷ 12 ∷ 4660 ∷ 34952 ∷ 1 ∷ 1 ∷ 12 ∷ 4660 ∷ 34952 ∷ 1 ∷ 1 ∷ 12 ∷ 4660 ∷ 34952 ∷ []
 
 pub second-found : searching 77 region list (replicate 140 9) ≡ found 0 1 row (payload ++ replicate 128 9)
 unfolding refusalOf outcome xors generator divide remainder parity attach maskRnti parityMatches interleaver pattern interleave deinterleave reliability log2up n1 n2 n lowRate rateMatching P J rank unsent front barred free chosen layout transform subBlocks selected select next1 next2 step1 step2 after terms gold descramble addUp certain gather codeRow f g fs gs decide successive marks placed codeWord coded badByte codingFor coding decided received orParity badSoft decodingFor decoding fits tried decodes accepted searched searchRefusal orRefused searching
@@ -51,7 +51,7 @@ second-found = refl
 -- ---- the sizes
 
 -- 45 candidates, and a buffer of 139
-pub too-many : searching 77 [] (replicate 180 1) (replicate 139 9) ≡ found 4 0 [] (replicate 139 9)
+pub too-many : searching 77 [] (replicate 225 1) (replicate 139 9) ≡ found 4 0 [] (replicate 139 9)
 unfolding searchRefusal orRefused searching
 too-many = refl
 
@@ -61,6 +61,6 @@ unfolding searchRefusal orRefused searching
 short-buffer = refl
 
 -- an empty region, and 44 candidates
-pub nothing-there : searching 77 [] (replicate 176 1) (replicate 140 9) ≡ found 8 0 [] (replicate 140 9)
+pub nothing-there : searching 77 [] (replicate 220 1) (replicate 140 9) ≡ found 8 0 [] (replicate 140 9)
 unfolding fits decodes searched searchRefusal orRefused searching
 nothing-there = refl

@@ -18,7 +18,7 @@ use Rattle.nr.specs.Answer.{lengths, refusal, firstOf, Outcome}
 use Rattle.nr.specs.Coding.{coding}
 use Rattle.nr.specs.Decoding.{decoding}
 use Rattle.nr.specs.Promise3.{Accepted, Payload, Noiseless}
-use Rattle.nr.specs.Searching.{levels, fits, candidateAt, stretchOf, numbersOf, tried, decodes, Found, found, accepted, searched, whole, searchRefusal, orRefused, searching, startOf}
+use Rattle.nr.specs.Searching.{levels, fits, candidateAt, stretchOf, numbersOf, tried, sixteenBits, decodes, Found, found, accepted, searched, whole, searchRefusal, orRefused, searching, startOf}
 use Rattle.nr.proofs.Tests.{is, holds, clash, both-pass, both-fail, fails, one-of, has-one}
 use Rattle.nr.proofs.Rows.{mapped}
 use Rattle.nr.proofs.Chains.{none, nothing, given-by}
@@ -67,15 +67,25 @@ stretch-at region c k l = getD-take (108 * c .level) (drop (108 * c .first) regi
 
 -- ---- which candidates decode
 
+-- its RNTI and its n_RNTI have 16 bits
+abbrev pub SixteenBits : Candidate → Type 0
+SixteenBits c = (c .rnti < 65536) × (c .«n_rnti» < 65536)
+
+pub sixteen-exactly : (c : Candidate) → (sixteenBits c ≡ true) ↔ SixteenBits c
+sixteen-exactly c = (
+  λ e. let p = both-pass _ _ .0 e in (ltb-true (c .rnti) 65536 (p .0), ltb-true (c .«n_rnti») 65536 (p .1)),
+  λ h. both-pass _ _ .1 (lt-ltb (c .rnti) 65536 (h .0), lt-ltb (c .«n_rnti») 65536 (h .1)),
+)
+
 module _ (n : ℕ) (region : List ℤ) (out : List ℕ) (c : Candidate) where
-  pub decodes-exactly : (decodes n region out c ≡ true) ↔ (Fits region c × ((c .rnti < 65536) × (tried n region out c .number ≡ 0)))
+  pub decodes-exactly : (decodes n region out c ≡ true) ↔ (Fits region c × (SixteenBits c × (tried n region out c .number ≡ 0)))
   unfolding decodes
   decodes-exactly = (
     λ e.
         let p = both-pass _ _ .0 e in
         let q = both-pass _ _ .0 (p .1) in
-        (p .0, (ltb-true (c .rnti) 65536 (q .0), eqb-true (tried n region out c .number) 0 (q .1))),
-    λ h. both-pass _ _ .1 (h .0, both-pass _ _ .1 (lt-ltb (c .rnti) 65536 (h .1 .0), eq-eqb (tried n region out c .number) 0 (h .1 .1))),
+        (p .0, (sixteen-exactly c .0 (q .0), eqb-true (tried n region out c .number) 0 (q .1))),
+    λ h. both-pass _ _ .1 (h .0, both-pass _ _ .1 (sixteen-exactly c .1 (h .1 .0), eq-eqb (tried n region out c .number) 0 (h .1 .1))),
   )
 
   pub runs : decodes n region out c ≡ true → DecodingRuns (numbersOf n c) (stretchOf region c) (take (c .a) out)
@@ -86,9 +96,12 @@ module _ (n : ℕ) (region : List ℤ) (out : List ℕ) (c : Candidate) where
   pub unfit-undecoded : (Fits region c → ⊥) → decodes n region out c ≡ false
   unfit-undecoded f = fails _ (λ e. f (decodes-exactly .0 e .0))
 
-  -- nor one whose RNTI has more than 16 bits
+  -- nor one whose RNTI or n_RNTI has more than 16 bits
   pub rnti-undecoded : 65535 < c .rnti → decodes n region out c ≡ false
-  rnti-undecoded l = fails _ (λ e. let h = decodes-exactly .0 e .1 .0 in omega arith)
+  rnti-undecoded l = fails _ (λ e. let h = decodes-exactly .0 e .1 .0 .0 in omega arith)
+
+  pub n-rnti-undecoded : 65535 < c .«n_rnti» → decodes n region out c ≡ false
+  n-rnti-undecoded l = fails _ (λ e. let h = decodes-exactly .0 e .1 .0 .1 in omega arith)
 
   -- nor one to whose A and E one of 1 to 3 applies
   pub refused-undecoded : refusal (c .a) (108 * c .level) ≢ 0 → decodes n region out c ≡ false
@@ -116,17 +129,17 @@ module _ (n : ℕ) (region : List ℤ) (list out : List ℕ) where
 
   -- the region is 0 to 64 whole CCEs and the list 0 to 44 whole candidates
   abbrev pub Sizes : Type 0
-  Sizes = Whole 108 64 (length region) × Whole 4 44 (length list)
+  Sizes = Whole 108 64 (length region) × Whole 5 44 (length list)
 
   abbrev pub decodesAt : ℕ → Bool
   decodesAt i = decodes n region out (candidateAt list i)
 
   abbrev pub NoneDecodes : Type 0
-  NoneDecodes = (i : ℕ) → i < length list / 4 → decodesAt i ≡ false
+  NoneDecodes = (i : ℕ) → i < length list / 5 → decodesAt i ≡ false
 
   -- i is the first candidate that decodes
   abbrev pub First : ℕ → Type 0
-  First = FirstBelow decodesAt (length list / 4)
+  First = FirstBelow decodesAt (length list / 5)
 
   -- the four ways in which a search ends
   pub data Ending : Found → Type 0 where
@@ -138,7 +151,7 @@ module _ (n : ℕ) (region : List ℤ) (list out : List ℕ) where
   -- ---- that it ends in one of them
 
   abbrev badSizes : Bool
-  badSizes = not (whole 108 64 (length region)) || not (whole 4 44 (length list))
+  badSizes = not (whole 108 64 (length region)) || not (whole 5 44 (length list))
 
   abbrev badBuffer : Bool
   badBuffer = not (eqb (length out) 140)
@@ -147,10 +160,10 @@ module _ (n : ℕ) (region : List ℤ) (list out : List ℕ) where
   refused = firstOf 4 (badSizes ∷ badBuffer ∷ [])
 
   abbrev place : ℕ
-  place = first decodesAt (count 0 (length list / 4))
+  place = first decodesAt (count 0 (length list / 5))
 
   sizes-are : (badSizes ≡ false) ↔ Sizes
-  sizes-are = both-fail (whole-is 108 64 (length region)) (whole-is 4 44 (length list))
+  sizes-are = both-fail (whole-is 108 64 (length region)) (whole-is 5 44 (length list))
 
   -- neither 4 nor 5
   pub unrefused : searchRefusal (length region) (length list) (length out) ≡ 0 → Sizes × (length out ≡ 140)
@@ -163,13 +176,13 @@ module _ (n : ℕ) (region : List ℤ) (list out : List ℕ) where
   refused-is zero z e = absurd (z refl)
   refused-is (suc i) z e = ap (λ (r : ℕ). orRefused r out (searched n region list out)) (sym e)
 
-  let-pass : refused ≡ 0 → (d : Bool) → ltb place (length list / 4) ≡ d → cond d (accepted n region list out place) (found 8 0 [] out) ≡ answer
+  let-pass : refused ≡ 0 → (d : Bool) → ltb place (length list / 5) ≡ d → cond d (accepted n region list out place) (found 8 0 [] out) ≡ answer
   unfolding searching searchRefusal orRefused searched
   let-pass e d e′ = ap₂ (λ (r : ℕ) (t : Bool). orRefused r out (cond t (accepted n region list out place) (found 8 0 [] out))) (sym e) (sym e′)
 
   pub searching-ends : Ending answer
   unfolding searchRefusal
-  searching-ends = go badSizes refl badBuffer refl (ltb place (length list / 4)) refl
+  searching-ends = go badSizes refl badBuffer refl (ltb place (length list / 5)) refl
     where
       row : List Bool
       row = badSizes ∷ badBuffer ∷ []
@@ -177,16 +190,16 @@ module _ (n : ℕ) (region : List ℤ) (list out : List ℕ) where
       buffer-is : (badBuffer ≡ false) ↔ (length out ≡ 140)
       buffer-is = length-is (length out) 140
 
-      go : (s : Bool) → badSizes ≡ s → (b : Bool) → badBuffer ≡ b → (d : Bool) → ltb place (length list / 4) ≡ d → Ending answer
+      go : (s : Bool) → badSizes ≡ s → (b : Bool) → badBuffer ≡ b → (d : Bool) → ltb place (length list / 5) ≡ d → Ending answer
       go true s b b′ d d′ = subst Ending (refused-is 4 (λ z. omega arith) (given-by 3 0 row s)) (wrong-sizes (denied badSizes sizes-are .0 s))
       go false s true b d d′ =
           subst Ending (refused-is 5 (λ z. omega arith) (given-by 3 1 row (s, b))) (wrong-buffer (sizes-are .0 s) (denied badBuffer buffer-is .0 b))
       go false s false b true d =
           subst Ending (let-pass (nothing 4 row (s, (b, tt))) true d)
-          (first-decodes (sizes-are .0 s) (buffer-is .0 b) place (first-below decodesAt (length list / 4) (ltb-true place (length list / 4) d)))
+          (first-decodes (sizes-are .0 s) (buffer-is .0 b) place (first-below decodesAt (length list / 5) (ltb-true place (length list / 5) d)))
       go false s false b false d =
           subst Ending (let-pass (nothing 4 row (s, (b, tt))) false d)
-          (none-decodes (sizes-are .0 s) (buffer-is .0 b) (none-below decodesAt (length list / 4) (ltb-false place (length list / 4) d)))
+          (none-decodes (sizes-are .0 s) (buffer-is .0 b) (none-below decodesAt (length list / 5) (ltb-false place (length list / 5) d)))
 
   -- ---- and so when each number is given
 
@@ -194,7 +207,7 @@ module _ (n : ℕ) (region : List ℤ) (list out : List ℕ) where
     pub four : (f .number ≡ 4) ↔ (Sizes → ⊥)
     pub five : (f .number ≡ 5) ↔ (Sizes × (length out ≢ 140))
     pub eight : (f .number ≡ 8) ↔ ((Sizes × (length out ≡ 140)) × NoneDecodes)
-    pub done : (f .number ≡ 0) ↔ ((Sizes × (length out ≡ 140)) × ((i : ℕ) × ((i < length list / 4) × (decodesAt i ≡ true))))
+    pub done : (f .number ≡ 0) ↔ ((Sizes × (length out ≡ 140)) × ((i : ℕ) × ((i < length list / 5) × (decodesAt i ≡ true))))
     pub no-other : (f .number ≡ 0) ⊎ ((f .number ≡ 4) ⊎ ((f .number ≡ 5) ⊎ (f .number ≡ 8)))
 
   numbered : (f : Found) → Ending f → Numbered f
@@ -348,9 +361,9 @@ module _ (n : ℕ) (region : List ℤ) (list out : List ℕ) where
 
   -- candidate i, decoded under its numbers, would give the payload: its row is noiseless for it
   pub record Carries (i : ℕ) (payload out′ : List ℕ) : Type 0 where
-    pub below : i < length list / 4
+    pub below : i < length list / 5
     pub fit : Fits region (candidateAt list i)
-    pub rnti : candidateAt list i .rnti < 65536
+    pub sixteen : SixteenBits (candidateAt list i)
     pub numbers : Accepted (numbersOf n (candidateAt list i))
     pub input : Payload (numbersOf n (candidateAt list i)) payload
     pub output : length out′ ≡ 108 * candidateAt list i .level
@@ -361,7 +374,7 @@ module _ (n : ℕ) (region : List ℤ) (list out : List ℕ) where
       → answer ≡ found 0 i (stretchOf region (candidateAt list i)) (payload ++ drop (candidateAt list i .a) out)
   unfolding accepted tried
   searching-finds s b i payload out′ h before =
-      first-named s b (record { below = h .below; itself = decodes-exactly n region out c .1 (h .fit, (h .rnti, ap (λ (o : Outcome). o .number) gives)); before = before })
+      first-named s b (record { below = h .below; itself = decodes-exactly n region out c .1 (h .fit, (h .sixteen, ap (λ (o : Outcome). o .number) gives)); before = before })
       ∙ ap (λ (o : Outcome). found 0 i (stretchOf region c) (o .buffer ++ drop (c .a) out)) gives
     where
       c : Candidate

@@ -1,4 +1,4 @@
--- Promise 3: coding gives 0, and from every noiseless row decoding under the same numbers gives 0 and exactly that payload.
+-- Promise 3: coding gives 0, and from every noiseless row decoding under the same five numbers gives 0 and exactly that payload.
 -- With what document 01, "The job and its borders", says of accepted numbers, payloads and noiseless rows.
 -- The statement; its proof is `promise3` of proofs/Promise3.antt.
 -- Assumes nothing.
@@ -32,7 +32,7 @@ pub record Noiseless (s : Numbers) (sent : List ℕ) (soft : List ℤ) : Type 0 
   pub positive : (k : ℕ) → k < s .e → getD sent k 0 ≡ 0 → pos 0 <ℤ getD soft k (pos 0)
   pub negative : (k : ℕ) → k < s .e → getD sent k 0 ≡ 1 → getD soft k (pos 0) <ℤ pos 0
 
--- Of the RNTI and n_ID nothing is asked. `out` is the output buffer before coding, `out′` that before decoding.
+-- Of the RNTI, n_ID and n_RNTI nothing is asked. `out` is the output buffer before coding, `out′` that before decoding.
 pub record Promise3 : Type 0 where
   pub codes : (s : Numbers) (payload out : List ℕ) → Accepted s → Payload s payload → length out ≡ s .e
       → coding s payload out .number ≡ 0

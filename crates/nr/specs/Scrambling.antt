@@ -38,6 +38,6 @@ terms (suc k) s1 s2 = (bit 0 s1 + bit 0 s2) % 2 ∷ terms k (step1 s1) (step2 s2
 unfoldable pub gold : ℕ → ℕ → List ℕ
 gold start E = terms E (after step1 1600 1) (after step2 1600 start)
 
--- c_init of 38.211: where x2 starts in a call
+-- c_init of 38.211 7.3.2.3: where x2 starts in a call
 abbrev pub cInit : Numbers → ℕ
-cInit s = s .«n_id»
+cInit s = (s .«n_rnti» * 2 ^ 16 + s .«n_id») % 2 ^ 31

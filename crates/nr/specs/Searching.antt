@@ -22,13 +22,14 @@ levels = 1 ∷ 2 ∷ 4 ∷ 8 ∷ 16 ∷ []
 unfoldable pub fits : ℕ → ℕ → ℕ → Bool
 fits cces first level = has level levels && (eqb (first % level) 0 && leb (first + level) cces)
 
--- candidate i of a list that has four numbers for each
+-- candidate i of a list that has five numbers for each
 abbrev pub candidateAt : List ℕ → ℕ → Candidate
 candidateAt list i = record {
-  first = getD list (4 * i) 0;
-  level = getD list (4 * i + 1) 0;
-  a = getD list (4 * i + 2) 0;
-  rnti = getD list (4 * i + 3) 0;
+  first = getD list (5 * i) 0;
+  level = getD list (5 * i + 1) 0;
+  a = getD list (5 * i + 2) 0;
+  rnti = getD list (5 * i + 3) 0;
+  «n_rnti» = getD list (5 * i + 4) 0;
 }
 
 -- its own row: the soft values of its CCEs
@@ -37,16 +38,20 @@ stretchOf region c = take (108 * c .level) (drop (108 * c .first) region)
 
 -- the numbers that it is decoded under
 abbrev pub numbersOf : ℕ → Candidate → Numbers
-numbersOf n c = record { a = c .a; e = 108 * c .level; rnti = c .rnti; «n_id» = n }
+numbersOf n c = record { a = c .a; e = 108 * c .level; rnti = c .rnti; «n_id» = n; «n_rnti» = c .«n_rnti» }
 
 -- what decoding makes of its row, with the front of the payload buffer
 unfoldable pub tried : ℕ → List ℤ → List ℕ → Candidate → Outcome
 tried n region out c = decoding (numbersOf n c) (stretchOf region c) (take (c .a) out)
 
--- it lies in the region as a message may, its RNTI has 16 bits, and decoding gives 0
+-- its RNTI and its n_RNTI have 16 bits, as those of the other calls
+abbrev pub sixteenBits : Candidate → Bool
+sixteenBits c = ltb (c .rnti) 65536 && ltb (c .«n_rnti») 65536
+
+-- it lies in the region as a message may, its numbers have 16 bits, and decoding gives 0
 unfoldable pub decodes : ℕ → List ℤ → List ℕ → Candidate → Bool
 decodes n region out c =
-    fits (length region / 108) (c .first) (c .level) && (ltb (c .rnti) 65536 && eqb (tried n region out c .number) 0)
+    fits (length region / 108) (c .first) (c .level) && (sixteenBits c && eqb (tried n region out c .number) 0)
 
 -- what the search gives: the number, the candidate that it names, that one's stretch of the region, and what the payload buffer
 -- then holds
@@ -68,7 +73,7 @@ accepted n region list out i =
 -- the first candidate that decodes; 8 where none does
 unfoldable pub searched : ℕ → List ℤ → List ℕ → List ℕ → Found
 searched n region list out =
-    let size : ℕ = length list / 4 in
+    let size : ℕ = length list / 5 in
     let i : ℕ = first (λ i. decodes n region out (candidateAt list i)) (count 0 size) in
     cond (ltb i size) (accepted n region list out i) (found 8 0 [] out)
 
@@ -78,7 +83,7 @@ whole size most entries = eqb (entries % size) 0 && leb (entries / size) most
 
 -- 4 where the region is not 0 to 64 whole CCEs or the list not 0 to 44 whole candidates; then 5 where the buffer is not 140 bytes
 unfoldable pub searchRefusal : ℕ → ℕ → ℕ → ℕ
-searchRefusal region list out = firstOf 4 ((not (whole 108 64 region) || not (whole 4 44 list)) ∷ not (eqb out 140) ∷ [])
+searchRefusal region list out = firstOf 4 ((not (whole 108 64 region) || not (whole 5 44 list)) ∷ not (eqb out 140) ∷ [])
 
 unfoldable pub orRefused : ℕ → List ℕ → Found → Found
 orRefused zero out f = f

@@ -1,19 +1,22 @@
 // The declared types of document 01's calls. What they mean is defined in specs/.
 
-// The numbers that set a call: payload size A, coded length E, RNTI, scrambling identity n_ID.
+// The numbers that set a call: payload size A, coded length E, RNTI, scrambling identity n_ID, and n_RNTI, which is 0 where the
+// scrambler starts from n_ID alone.
 pub struct Numbers {
     pub a: u64,
     pub e: u64,
     pub rnti: u16,
     pub n_id: u16,
+    pub n_rnti: u16,
 }
 
-// A candidate of a search: a message that may lie in `level` CCEs from CCE `first` on, its payload size A and its RNTI.
+// A candidate of a search: a message that may lie in `level` CCEs from CCE `first` on, its payload size A, its RNTI and its n_RNTI.
 pub struct Candidate {
     pub first: u32,
     pub level: u32,
     pub a: u32,
     pub rnti: u32,
+    pub n_rnti: u32,
 }
 
 // How E coded bits are made of N code bits (38.212 5.4.1).
