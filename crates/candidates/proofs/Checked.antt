@@ -1,6 +1,6 @@
 -- What the checks of a search and of a candidate say.
 -- Assumes nothing.
-use Prim.Native.Nat.{ℕ, _*_, _/_, _≤_, _<_}
+use Prim.Native.Nat.{ℕ, _*_, _/_, _≤_}
 use native.Mathlib.Decide.{decLe}
 use native.Mathlib.Nat.{lt-of-not-le}
 use native.Mathlib.Omega.{arith}
@@ -11,16 +11,16 @@ use mathlib.Core.List.{List}
 use lib.Dec.{T, eqb}
 use lib.IntN.{ℤ}
 use lib.ListN.{length}
-use borrow.Author.Tests.{lt-ltb, ltb-true, eq-eqb, ne-eqb, eqb-true}
+use borrow.Author.Tests.{eq-eqb, ne-eqb, eqb-true}
 use Rattle.nr.specs.declared.Answer.{Answer}
 use Rattle.nr.specs.declared.Answer.the-variants.{Done}
 use Rattle.nr.specs.declared.Candidate.{Candidate}
 use Rattle.nr.specs.Rows.{has}
 use Rattle.nr.specs.Answer.{lengths, refusal, number}
-use Rattle.nr.specs.Searching.{levels, fits, decodes}
+use Rattle.nr.specs.Searching.{levels, fits, sixteenBits, decodes}
 use Rattle.nr.proofs.Tests.{alike, clash, both-pass, fails, OneOf, has-one, one-of}
 use Rattle.nr.proofs.Rows.{mapped}
-use Rattle.nr.proofs.Searching.{decodes-exactly, runs}
+use Rattle.nr.proofs.Searching.{sixteen-exactly, decodes-exactly, runs}
 use Rattle.checks.specs.Checks.{sizeRefusal, Says}
 use Rattle.candidates.specs.Tryable.{tryable}
 
@@ -52,14 +52,14 @@ not-zero l h = elim (decLe 1 l) [
 -- a candidate that can be tried
 pub record Able (cces : ℕ) (c : Candidate) : Type 0 where
   pub fits : fits cces (c .first) (c .level) ≡ true
-  pub rnti : c .rnti < 65536
+  pub sixteen : sixteenBits c ≡ true
   pub sizes : refusal (c .a) (108 * c .level) ≡ 0
 
 pub able : (cces : ℕ) (c : Candidate) → tryable cces c ≡ true → Able cces c
 able cces c e =
     let p = both-pass _ _ .0 e in
     let q = both-pass _ _ .0 (p .1) in
-    record { fits = p .0; rnti = ltb-true _ _ (q .0); sizes = eqb-true _ _ (q .1) }
+    record { fits = p .0; sixteen = q .0; sizes = eqb-true _ _ (q .1) }
 
 -- what the check of A and E says of them
 module _ (A E : ℕ) (r : Answer) (y : Says (sizeRefusal A E 0 0 0 0) r) where
@@ -79,4 +79,4 @@ pub unable : (n : ℕ) (region : List ℤ) (out : List ℕ) (c : Candidate) → 
 unable n region out c u =
     fails _ (λ e.
     let d = decodes-exactly n region out c .0 e in
-    clash (both-pass _ _ .1 (d .0, both-pass _ _ .1 (lt-ltb _ _ (d .1 .0), eq-eqb _ _ (runs n region out c e .numbers)))) u)
+    clash (both-pass _ _ .1 (d .0, both-pass _ _ .1 (sixteen-exactly c .1 (d .1 .0), eq-eqb _ _ (runs n region out c e .numbers)))) u)

@@ -28,7 +28,7 @@ fn write(numbers: Numbers, payload: &[u8], out: &mut [u8])
     let positions = code.positions;
     let k = payload.len() + 24;
     let rnti = numbers.rnti;
-    let c_init = numbers.n_id as u32;
+    let c_init = scrambling::c_init(numbers);
     sender::send(n, kind, &positions[..k], rnti, c_init, payload, out);
 }
 
@@ -108,7 +108,7 @@ fn fresh(numbers: Numbers, soft: &[i32], out: &mut [u8]) -> Answer
 {
     let l = construction::construct(numbers.a, numbers.e);
     let e = soft.len();
-    let start = numbers.n_id as u32;
+    let start = scrambling::c_init(numbers);
     let mut terms = [0u8; 1728];
     scrambling::sequence(start, &mut terms[..e]);
     accept(numbers, l, &terms[..e], soft, out)

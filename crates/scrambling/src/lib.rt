@@ -1,10 +1,11 @@
 // Scrambling: the Gold sequence of 38.211 5.2.1 added to a row of bits, 16 terms at a time, and undone in a row of soft values.
+use nr::Numbers;
 ghost use mathlib.Core.Path.{_≡_};
 ghost use Prim.Native.Nat.{_≤_, _<_, _^_};
 ghost use lib.IntN.{natAbs};
 ghost use lib.ListN.{length};
 ghost use Rattle.nr.specs.Rows.{xors, Bits, Within};
-ghost use Rattle.nr.specs.Scrambling.{step1, step2, after, terms, gold};
+ghost use Rattle.nr.specs.Scrambling.{step1, step2, after, terms, gold, cInit};
 ghost use Rattle.nr.specs.SuccessiveDecoder.{negateIf, descramble};
 ghost use Rattle.scrambling.specs.Nibbles.{digits};
 
@@ -104,6 +105,13 @@ pub fn sequence(seed: u32, row: &mut [u8])
 {
     rows::clear(row);
     scramble(seed, row);
+}
+
+// c_init of 38.211 7.3.2.3: the seed that a call's numbers give. Before the mask it has 32 bits, so that nothing wraps.
+pub fn c_init(numbers: Numbers) -> u32
+    ensures { λ r. ⌜ r ≡ cInit numbers ⌝ }
+{
+    ((numbers.n_rnti as u32) * 65536 + (numbers.n_id as u32)) & 0x7fffffff
 }
 
 // A soft value, negated where the scrambling bit is 1.

@@ -1,8 +1,8 @@
 -- A candidate's row decoded into the front of the payload buffer.
 -- Assumes nothing.
-use Prim.Native.Nat.{ℕ, _*_, _≤_}
+use Prim.Native.Nat.{ℕ, _≤_}
 use native.Mathlib.Omega.{arith}
-use mathlib.Core.Path.{_≡_, refl, sym, subst, ap, _∙_}
+use mathlib.Core.Path.{_≡_, sym, subst, ap, _∙_}
 use mathlib.Core.List.{List, _++_}
 use lib.IntN.{ℤ, pos, natAbs}
 use lib.ListN.{length, getD, take, drop}
@@ -10,51 +10,40 @@ use lib.Seq.{length-take-le}
 use borrow.Author.Tests.{le-ltb}
 use Rattle.nr.specs.declared.Numbers.{Numbers}
 use Rattle.nr.specs.declared.Answer.{Answer}
-use Rattle.nr.specs.declared.Candidate.{Candidate}
-use Rattle.nr.specs.Numbers.{K}
-use Rattle.nr.specs.Answer.{refusal, Outcome, given}
-use Rattle.nr.specs.Construction.{layout}
-use Rattle.nr.specs.Decoding.{badSoft, decoding}
+use Rattle.nr.specs.Answer.{Outcome, given}
+use Rattle.nr.specs.Scrambling.{cInit}
+use Rattle.nr.specs.Decoding.{badSoft}
 use Rattle.nr.proofs.Refusals.{Passes, accepted-exactly, first-none}
-use Rattle.construction.specs.declared.Layout.{Layout as Made}
-use Rattle.construction.specs.Shapes.{Lays}
 use Rattle.dci.specs.Judged.{judged}
 use Rattle.dci.proofs.Outcomes.{judged-decoding}
-use Rattle.search.specs.Tries.{Tries, attempted}
+use Rattle.search.specs.Tries.{Ready, Tries, attempted}
 
-module _ {n : ℕ} {c : Candidate} {sequence : List ℕ} {row : List ℤ} {out : List ℕ} (t : Tries n c sequence row out) where
-  -- the numbers, with E by the row's length
-  abbrev numbers : Numbers
-  numbers = record { a = c .a; e = length row; rnti = c .rnti; «n_id» = n }
+module _ {s : Numbers} {sequence : List ℕ} {row : List ℤ} {out : List ℕ} (t : Tries s sequence row out) where
+  pub payload-fits : s .a ≤ length out
+  payload-fits = omega (arith, t .output, accepted-exactly (s .a) (s .e) .0 (t .sizes) .high)
 
-  pub sizes : refusal (c .a) (length row) ≡ 0
-  sizes = ap (refusal (c .a)) (t .size) ∙ t .sizes
+  pub front-size : length (take (s .a) out) ≡ s .a
+  front-size = length-take-le (s .a) out payload-fits
 
-  pub payload-fits : c .a ≤ length out
-  payload-fits = omega (arith, t .output, accepted-exactly (c .a) (108 * c .level) .0 (t .sizes) .high)
-
-  pub front-size : length (take (c .a) out) ≡ c .a
-  front-size = length-take-le (c .a) out payload-fits
+  -- the terms for the row, by its length
+  pub terms : Ready (cInit s) (length row) sequence
+  terms = subst (λ (E : ℕ). Ready (cInit s) E sequence) (sym (t .size)) (t .terms)
 
   pub terms-size : length (take (length row) sequence) ≡ length row
-  terms-size = length-take-le (length row) sequence (t .terms .within)
+  terms-size = length-take-le (length row) sequence (terms .within)
 
-  pub code-is : {code : Made} → Lays (layout (K (c .a)) (108 * c .level)) code → Lays (layout (K (c .a)) (length row)) code
-  code-is {code = code} = subst (λ (E : ℕ). Lays (layout (K (c .a)) E) code) (sym (t .size))
-
-  passes : Passes (c .a) (length row) badSoft row (length row) (take (c .a) out) (c .a)
+  passes : Passes (s .a) (s .e) badSoft row (s .e) (take (s .a) out) (s .a)
   unfolding badSoft
   passes = record {
-    pair = sizes;
-    input-length = refl;
+    pair = t .sizes;
+    input-length = t .size;
     output-length = front-size;
     entries = first-none badSoft row (pos 0) (λ k l. le-ltb 127 (natAbs (getD row k (pos 0))) (t .range k));
   }
 
-  pub attempted-is : (r : Answer) (new : List ℕ) → given r new ≡ judged numbers row (take (c .a) out)
-      → given r (new ++ drop (c .a) out) ≡ attempted n c row out
+  pub attempted-is : (r : Answer) (new : List ℕ) → given r new ≡ judged s row (take (s .a) out)
+      → given r (new ++ drop (s .a) out) ≡ attempted s row out
   unfolding given
   attempted-is r new q =
-      ap (λ (o : Outcome). record { number = o .number; place = o .place; buffer = o .buffer ++ drop (c .a) out })
-      (q ∙ judged-decoding numbers row (take (c .a) out) passes
-      ∙ ap (λ (E : ℕ). decoding (record { a = c .a; e = E; rnti = c .rnti; «n_id» = n }) row (take (c .a) out)) (t .size))
+      ap (λ (o : Outcome). record { number = o .number; place = o .place; buffer = o .buffer ++ drop (s .a) out })
+      (q ∙ judged-decoding s row (take (s .a) out) passes)

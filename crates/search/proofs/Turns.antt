@@ -16,10 +16,11 @@ use mir.Val.{SFits, toZ, ofZ}
 use mir.ValLaws.{toZ-ofZ}
 use borrow.Author.Tests.{ltb-true, ne-eqb}
 use Rattle.nr.specs.declared.Answer.{Answer}
+use Rattle.nr.specs.declared.Numbers.{Numbers}
 use Rattle.nr.specs.declared.Candidate.{Candidate}
 use Rattle.nr.specs.Rows.{Within}
 use Rattle.nr.specs.Answer.{refusal, number, Outcome, given}
-use Rattle.nr.specs.Scrambling.{terms, gold}
+use Rattle.nr.specs.Scrambling.{terms, gold, cInit}
 use Rattle.nr.specs.Decoding.{badSoft}
 use Rattle.nr.specs.Searching.{candidateAt, stretchOf, numbersOf, tried, decodes, Found, found, accepted, searchRefusal, searching, startOf}
 use Rattle.nr.proofs.Tests.{fails}
@@ -27,7 +28,7 @@ use Rattle.nr.proofs.Construction.{accepted as sized}
 use Rattle.nr.proofs.Refusals.{longest, accepted-exactly, first-none}
 use Rattle.nr.proofs.Scrambling.{take-gold}
 use Rattle.nr.proofs.Promise1.{decoding-untouched}
-use Rattle.nr.proofs.Searching.{fits-exactly, stretch-length, decodes-exactly, bad-undecoded, unrefused, first-named, none-named}
+use Rattle.nr.proofs.Searching.{fits-exactly, stretch-length, sixteen-exactly, decodes-exactly, bad-undecoded, unrefused, first-named, none-named}
 use Rattle.checks.specs.Checks.{beyond}
 use Rattle.dci.proofs.Ranges.{soft-beyond}
 use Rattle.dci.proofs.Outcomes.{soft-within}
@@ -80,7 +81,7 @@ all-passed {row = row} p l =
 -- ---- the loop over the candidates: the output is as it was, and none before candidate i decodes
 
 pub record Kept (n : ℕ) (region : List ℤ) (list out₀ out : List ℕ) (i : ℕ) : Type 0 where
-  pub within : i ≤ length list / 4
+  pub within : i ≤ length list / 5
   pub same : out ≡ out₀
   pub none : (j : ℕ) → j < i → decodes n region out₀ (candidateAt list j) ≡ false
 
@@ -90,7 +91,7 @@ none-tried n region list out = record { within = omega arith; same = refl; none 
 -- a turn, with candidate i
 pub record Turn (n : ℕ) (region : List ℤ) (list out₀ out : List ℕ) (i : ℕ) (c : Candidate) : Type 0 where
   pub kept : Kept n region list out₀ out i
-  pub below : i < length list / 4
+  pub below : i < length list / 5
   pub is : c ≡ candidateAt list i
 
 module _ {n : ℕ} {region : List ℤ} {list out₀ out : List ℕ} {i : ℕ} {c : Candidate} (t : Turn n region list out₀ out i c) where
@@ -110,10 +111,10 @@ module _ {n : ℕ} {region : List ℤ} {list out₀ out : List ℕ} {i : ℕ} {c
   skip-unable e = skip out (t .kept .same) (unable n region out₀ c e)
 
   -- it was tried
-  module _ (a : tryable (length region / 108) c ≡ true) {row : List ℤ} (row-is : row ≡ stretchOf region c) (r : Answer) (new : List ℕ)
-      (says : given r new ≡ attempted n c row out) where
-    said : given r new ≡ attempted n c (stretchOf region c) out₀
-    said = says ∙ ap₂ (attempted n c) row-is (t .kept .same)
+  module _ (a : tryable (length region / 108) c ≡ true) {row : List ℤ} (row-is : row ≡ stretchOf region c) {s : Numbers} (s-is : s ≡ numbersOf n c)
+      (r : Answer) (new : List ℕ) (says : given r new ≡ attempted s row out) where
+    said : given r new ≡ attempted (numbersOf n c) (stretchOf region c) out₀
+    said = says ∙ ap (λ (u : Numbers). attempted u row out) s-is ∙ ap₂ (attempted (numbersOf n c)) row-is (t .kept .same)
 
     number-is : number r ≡ tried n region out₀ c .number
     unfolding given tried
@@ -140,14 +141,14 @@ module _ {n : ℕ} {region : List ℤ} {list out₀ out : List ℕ} {i : ℕ} {c
     unfolding accepted
     found-it z s =
         let u = unrefused n region list out₀ (sym s) in
-        let g = able _ _ a in
-        let d : decodes n region out₀ c ≡ true = decodes-exactly n region out₀ c .1 (g .fits, (g .rnti, sym number-is ∙ z)) in
+        let g = able (length region / 108) c a in
+        let d : decodes n region out₀ c ≡ true = decodes-exactly n region out₀ c .1 (g .fits, (sixteen-exactly c .0 (g .sixteen), sym number-is ∙ z)) in
         ap₂ (found 0 i) row-is buffer-is
         ∙ ap (λ (d : Candidate). found 0 i (stretchOf region d) (tried n region out₀ d .buffer ++ drop (d .a) out₀)) (t .is)
         ∙ sym (first-named n region list out₀ (u .0) (u .1)
         (record { below = t .below; itself = subst (λ (d : Candidate). decodes n region out₀ d ≡ true) (t .is) d; before = t .kept .none }))
 
-pub found-none : {n : ℕ} {region : List ℤ} {list out₀ out : List ℕ} {i : ℕ} → Kept n region list out₀ out i → length list / 4 ≤ i
+pub found-none : {n : ℕ} {region : List ℤ} {list out₀ out : List ℕ} {i : ℕ} → Kept n region list out₀ out i → length list / 5 ≤ i
     → 0 ≡ searchRefusal (length region) (length list) (length out₀) → found 8 0 [] out ≡ searching n region list out₀
 found-none {n = n} {region = region} {list = list} {out₀ = out₀} k l s =
     let u = unrefused n region list out₀ (sym s) in
@@ -169,17 +170,17 @@ start-at {list = list} t f part new e =
 
 -- ---- what is kept between candidates: the sequence as far as it was made, and the code of the one before
 
-pub record Stock (start : ℕ) (sequence : List ℕ) (ready : ℕ) (code : Made) (before : Candidate) : Type 0 where
+pub record Stock (sequence : List ℕ) (ready : ℕ) (code : Made) (before : Numbers) : Type 0 where
   pub size : length sequence ≡ 1728
-  pub terms : Ready start ready sequence
+  pub terms : Ready (cInit before) ready sequence
   pub kept : Keeps before code
 
-pub no-stock : (start : ℕ) (code : Made) {before : Candidate} → before .a ≡ 0 → Stock start (replicate 1728 0) 0 code before
+pub no-stock : (code : Made) {before : Numbers} → before .a ≡ 0 → Stock (replicate 1728 0) 0 code before
 unfolding gold terms refusal
-no-stock start code {before = b} e = record {
+no-stock code {before = b} e = record {
   size = length-replicate {A = ℕ} 1728 0;
   terms = record { within = omega arith; is = refl };
-  kept = record { is = λ r. absurd (omega (arith, accepted-exactly (b .a) (108 * b .level) .0 r .low)) };
+  kept = record { is = λ r. absurd (omega (arith, accepted-exactly (b .a) (b .e) .0 r .low)) };
 }
 
 -- a candidate that can be tried lies within the region
@@ -192,8 +193,12 @@ room region c a = omega (arith, fits-exactly (length region / 108) (c .first) (c
 pub row-size : {region : List ℤ} {c : Candidate} {row : List ℤ} {k : ℕ} → Passed region c row k → Able (length region / 108) c → length row ≡ 108 * c .level
 row-size {region = region} {c = c} p a = ap length (p .is) ∙ stretch-length region c (a .fits)
 
-pub row-fits : {region : List ℤ} {c : Candidate} {row : List ℤ} {k : ℕ} → Passed region c row k → Able (length region / 108) c → length row ≤ 1728
-row-fits {c = c} p a = omega (arith, row-size p a, longest (108 * c .level) (sized (c .a) (108 * c .level) (a .sizes) .length))
+-- its numbers are accepted
+pub numbers-sizes : {cces n : ℕ} {c : Candidate} {s : Numbers} → Able cces c → s ≡ numbersOf n c → refusal (s .a) (s .e) ≡ 0
+numbers-sizes a s-is = ap (λ (u : Numbers). refusal (u .a) (u .e)) s-is ∙ a .sizes
+
+pub numbers-fit : {cces n : ℕ} {c : Candidate} {s : Numbers} → Able cces c → s ≡ numbersOf n c → s .e ≤ 1728
+numbers-fit {s = s} a s-is = longest (s .e) (sized (s .a) (s .e) (numbers-sizes a s-is) .length)
 
 -- the first terms of those that are ready
 fewer : {start e ready : ℕ} {row : List ℕ} → Ready start ready row → e ≤ ready → Ready start e row
@@ -203,14 +208,13 @@ fewer {start = start} {e = e} {ready = ready} {row = row} r l = record {
 }
 
 module _ {n : ℕ} {region : List ℤ} {list out₀ out : List ℕ} {i : ℕ} {c : Candidate} {row : List ℤ} {k : ℕ} (t : Turn n region list out₀ out i c)
-    (a : Able (length region / 108) c) (p : Passed region c row k) where
+    (a : Able (length region / 108) c) (p : Passed region c row k) {s : Numbers} (s-is : s ≡ numbersOf n c) where
   pub tries : length row ≤ k → 0 ≡ searchRefusal (length region) (length list) (length out₀) → {ready : ℕ} {sequence : List ℕ}
-      → (length row ≤ ready) × Ready n ready sequence → Tries n c sequence row out
-  tries l s r = record {
-    sizes = a .sizes;
-    rnti = a .rnti;
-    size = row-size p a;
+      → (s .e ≤ ready) × Ready (cInit s) ready sequence → Tries s sequence row out
+  tries l u r = record {
+    sizes = numbers-sizes a s-is;
+    size = row-size p a ∙ ap (λ (u : Numbers). u .e) (sym s-is);
     range = all-passed p l;
     terms = fewer (r .1) (r .0);
-    output = ap length (t .kept .same) ∙ unrefused n region list out₀ (sym s) .1;
+    output = ap length (t .kept .same) ∙ unrefused n region list out₀ (sym u) .1;
   }

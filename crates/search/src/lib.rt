@@ -6,61 +6,69 @@ use nr::Numbers;
 use nr::RateMatching;
 ghost use mathlib.Core.Path.{_≡_};
 ghost use Prim.Native.Nat.{_+_, _*_, _≤_};
+ghost use mathlib.Core.Bool.{true};
 ghost use mathlib.Core.List.{[]};
 ghost use lib.ListN.{length};
 ghost use Rattle.nr.specs.Numbers.{K};
 ghost use Rattle.nr.specs.Answer.{refusal, given};
 ghost use Rattle.nr.specs.Construction.{layout};
-ghost use Rattle.nr.specs.Searching.{found, searching, startOf};
+ghost use Rattle.nr.specs.Scrambling.{cInit};
+ghost use Rattle.nr.specs.Searching.{numbersOf, sixteenBits, found, searching, startOf};
 ghost use Rattle.construction.specs.Shapes.{Lays};
 ghost use Rattle.search.specs.Tries.{Keeps, Ready, Tries, attempted};
 
-// The code of a candidate that can be tried: kept, where the one before had the same sizes.
-fn code_for(before: Candidate, code: Layout, c: Candidate) -> Layout
-    requires { ⌜ (refusal (c .a) (108 * c .level) ≡ 0) × Keeps before code ⌝ }
-    ensures { λ r. ⌜ Lays (layout (K (c .a)) (108 * c .level)) r ⌝ }
+// The numbers that a candidate is decoded under.
+fn numbers_of(n_id: u16, c: Candidate) -> Numbers
+    requires { ⌜ sixteenBits c ≡ true ⌝ }
+    ensures { λ r. ⌜ r ≡ numbersOf «n_id» c ⌝ }
 {
-    if before.a == c.a {
-        if before.level == c.level {
+    Numbers {
+        a: c.a as u64,
+        e: 108 * (c.level as u64),
+        rnti: c.rnti as u16,
+        n_id,
+        n_rnti: c.n_rnti as u16,
+    }
+}
+
+// The code for accepted numbers: kept, where those before had the same sizes.
+fn code_for(before: Numbers, code: Layout, numbers: Numbers) -> Layout
+    requires { ⌜ (refusal (numbers .a) (numbers .e) ≡ 0) × Keeps before code ⌝ }
+    ensures { λ r. ⌜ Lays (layout (K (numbers .a)) (numbers .e)) r ⌝ }
+{
+    if before.a == numbers.a {
+        if before.e == numbers.e {
             return code;
         }
     }
-    construction::construct(c.a as u64, 108 * (c.level as u64))
+    construction::construct(numbers.a, numbers.e)
 }
 
-// The scrambling sequence to at least E terms, where it has so many as `ready`; and how many it then has.
-fn extend(n_id: u16, ready: usize, e: usize, sequence: &mut [u8]) -> usize
-    requires { ⌜ (e ≤ length (now sequence)) × Ready «n_id» ready (now sequence) ⌝ }
-    ensures { λ r. ⌜ (e ≤ r) × Ready «n_id» r (now (sequence .exit)) ⌝ }
+// The scrambling sequence to at least E terms, where so many as `ready` stand there, from where the numbers before start it; and
+// how many it then has. Those that stand there are kept where the start is the same.
+fn extend(before: Numbers, ready: usize, numbers: Numbers, sequence: &mut [u8]) -> usize
+    requires { ⌜ (numbers .e ≤ length (now sequence)) × Ready (cInit before) ready (now sequence) ⌝ }
+    ensures { λ r. ⌜ (numbers .e ≤ r) × Ready (cInit numbers) r (now (sequence .exit)) ⌝ }
 {
-    if e <= ready {
-        return ready;
+    let start = scrambling::c_init(numbers);
+    let e = numbers.e as usize;
+    if scrambling::c_init(before) == start {
+        if e <= ready {
+            return ready;
+        }
     }
-    scrambling::sequence(n_id as u32, &mut sequence[..e]);
+    scrambling::sequence(start, &mut sequence[..e]);
     e
 }
 
 // A candidate's row decoded into the front of the payload buffer.
-fn attempt(
-    n_id: u16,
-    c: Candidate,
-    code: Layout,
-    sequence: &[u8],
-    row: &[i32],
-    out: &mut [u8],
-) -> Answer
-    requires { ⌜ Tries «n_id» c (now sequence) (now row) (now out) ⌝ }
-    requires { ⌜ Lays (layout (K (c .a)) (108 * c .level)) code ⌝ }
-    ensures { λ r. ⌜ given r (now (out .exit)) ≡ attempted «n_id» c (now (row .entry)) (now (out .entry)) ⌝ }
+fn attempt(numbers: Numbers, code: Layout, sequence: &[u8], row: &[i32], out: &mut [u8]) -> Answer
+    requires { ⌜ Tries numbers (now sequence) (now row) (now out) ⌝ }
+    requires { ⌜ Lays (layout (K (numbers .a)) (numbers .e)) code ⌝ }
+    ensures { λ r. ⌜ given r (now (out .exit)) ≡ attempted numbers (now (row .entry)) (now (out .entry)) ⌝ }
 {
-    let a = c.a as usize;
+    let a = numbers.a as usize;
     let e = row.len();
-    let numbers = Numbers {
-        a: a as u64,
-        e: e as u64,
-        rnti: c.rnti as u16,
-        n_id,
-    };
     dci::accept(numbers, code, &sequence[..e], row, &mut out[..a])
 }
 
@@ -73,15 +81,16 @@ fn no_code() -> Layout {
     }
 }
 
-// No candidate.
-fn no_candidate() -> Candidate
+// No numbers: none that are accepted.
+fn no_numbers() -> Numbers
     ensures { λ r. ⌜ r .a ≡ 0 ⌝ }
 {
-    Candidate {
-        first: 0,
-        level: 0,
+    Numbers {
         a: 0,
+        e: 0,
         rnti: 0,
+        n_id: 0,
+        n_rnti: 0,
     }
 }
 
@@ -94,7 +103,7 @@ fn nothing<'a>(why: u64, region: &'a [i32], number: &mut u64, candidate: &mut us
     &region[0..0]
 }
 
-// Searches the candidates, four numbers each, in a region of CCEs of 108 soft values. The number is 0 where one decodes, with its
+// Searches the candidates, five numbers each, in a region of CCEs of 108 soft values. The number is 0 where one decodes, with its
 // place in the list, its stretch of the region, and its payload at the start of the output; else 4 (lengths of the region and the
 // list), 5 (length of the output) or 8 (none decodes), with candidate 0, an empty stretch, and the output as it was. The stretch is
 // the caller's own: it stands where it does in the region, whose values have 4 bytes.
@@ -116,8 +125,8 @@ pub fn search<'a>(
     let mut sequence = [0u8; 1728];
     let mut ready = 0;
     let mut code = no_code();
-    let mut before = no_candidate();
-    'candidates: for i in 0..list.len() / 4 {
+    let mut before = no_numbers();
+    'candidates: for i in 0..list.len() / 5 {
         let c = candidates::candidate_at(list, i);
         if !candidates::is_tryable(region.len() / 108, c) {
             continue;
@@ -131,10 +140,11 @@ pub fn search<'a>(
                 continue 'candidates;
             }
         }
-        code = code_for(before, code, c);
-        before = c;
-        ready = extend(n_id, ready, row.len(), &mut sequence);
-        let answer = attempt(n_id, c, code, &sequence, row, out);
+        let numbers = numbers_of(n_id, c);
+        code = code_for(before, code, numbers);
+        ready = extend(before, ready, numbers, &mut sequence);
+        before = numbers;
+        let answer = attempt(numbers, code, &sequence, row, out);
         if let Answer::Done = answer {
             *number = 0;
             *candidate = i;

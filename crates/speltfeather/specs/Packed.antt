@@ -8,8 +8,8 @@ use Rattle.nr.specs.Answer.{Outcome}
 use Rattle.nr.specs.Searching.{Found}
 
 -- the numbers of a call
-abbrev pub numbers : ℕ → ℕ → ℕ → ℕ → Numbers
-numbers A E rnti n = record { a = A; e = E; rnti = rnti; «n_id» = n }
+abbrev pub numbers : ℕ → ℕ → ℕ → ℕ → ℕ → Numbers
+numbers A E rnti n q = record { a = A; e = E; rnti = rnti; «n_id» = n; «n_rnti» = q }
 
 -- what is returned and what the output buffer then holds: the number plus 256 times the place that it carries, and the buffer
 pub record Returns (o : Outcome) (r : ℕ) (buffer : List ℕ) : Type 0 where

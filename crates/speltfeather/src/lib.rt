@@ -28,6 +28,19 @@ fn pack(answer: Answer) -> u64
     }
 }
 
+// The numbers of a call, which C passes one by one.
+fn as_numbers(a: u64, e: u64, rnti: u16, n_id: u16, n_rnti: u16) -> Numbers
+    ensures { λ r. ⌜ r ≡ numbers a e rnti «n_id» «n_rnti» ⌝ }
+{
+    Numbers {
+        a,
+        e,
+        rnti,
+        n_id,
+        n_rnti,
+    }
+}
+
 // Codes a payload: `dci::encode`, with the numbers one by one and the answer as one number.
 #[no_mangle]
 pub extern "C" fn spelt_encode(
@@ -35,12 +48,13 @@ pub extern "C" fn spelt_encode(
     e: u64,
     rnti: u16,
     n_id: u16,
+    n_rnti: u16,
     payload: &[u8],
     out: &mut [u8],
 ) -> u64
-    ensures { λ r. ⌜ Returns (coding (numbers a e rnti «n_id») (now (payload .entry)) (now (out .entry))) r (now (out .exit)) ⌝ }
+    ensures { λ r. ⌜ Returns (coding (numbers a e rnti «n_id» «n_rnti») (now (payload .entry)) (now (out .entry))) r (now (out .exit)) ⌝ }
 {
-    let encoded = dci::encode(Numbers { a, e, rnti, n_id }, payload, out);
+    let encoded = dci::encode(as_numbers(a, e, rnti, n_id, n_rnti), payload, out);
     pack(encoded)
 }
 
@@ -51,12 +65,13 @@ pub extern "C" fn spelt_decode(
     e: u64,
     rnti: u16,
     n_id: u16,
+    n_rnti: u16,
     soft: &[i32],
     out: &mut [u8],
 ) -> u64
-    ensures { λ r. ⌜ Returns (decoding (numbers a e rnti «n_id») (now (soft .entry)) (now (out .entry))) r (now (out .exit)) ⌝ }
+    ensures { λ r. ⌜ Returns (decoding (numbers a e rnti «n_id» «n_rnti») (now (soft .entry)) (now (out .entry))) r (now (out .exit)) ⌝ }
 {
-    let decoded = dci::decode(Numbers { a, e, rnti, n_id }, soft, out);
+    let decoded = dci::decode(as_numbers(a, e, rnti, n_id, n_rnti), soft, out);
     let answer = decoded.answer;
     pack(answer)
 }
@@ -68,13 +83,19 @@ pub extern "C" fn spelt_loopback(
     e: u64,
     rnti: u16,
     n_id: u16,
+    n_rnti: u16,
     payload: &[u8],
     strengths: &[i32],
     out: &mut [u8],
 ) -> u64
-    ensures { λ r. ⌜ Returns (looped (numbers a e rnti «n_id») (now (payload .entry)) (now (strengths .entry)) (now (out .entry))) r (now (out .exit)) ⌝ }
+    ensures { λ r. ⌜ Returns (looped (numbers a e rnti «n_id» «n_rnti») (now (payload .entry)) (now (strengths .entry)) (now (out .entry))) r (now (out .exit)) ⌝ }
 {
-    let looped = self_test::loopback(Numbers { a, e, rnti, n_id }, payload, strengths, out);
+    let looped = self_test::loopback(
+        as_numbers(a, e, rnti, n_id, n_rnti),
+        payload,
+        strengths,
+        out,
+    );
     pack(looped)
 }
 
@@ -87,7 +108,7 @@ pub extern "C" fn spelt_describe(a: u64, e: u64, out: &mut [u8]) -> u64
     pack(described)
 }
 
-// Searches a list of candidates, four numbers each: `search::search`. The part of the region follows from the candidate.
+// Searches a list of candidates, five numbers each: `search::search`. The part of the region follows from the candidate.
 #[no_mangle]
 pub extern "C" fn spelt_search_list(
     n_id: u16,

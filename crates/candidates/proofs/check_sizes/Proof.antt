@@ -22,7 +22,7 @@ is-whole-requires-2 c κs = search needs
 region : (c : tie.Else1) → whole 108 64 (c .before .before .args .region) ≡ true
 region c = sym (c .before .is-whole .ensures) ∙ not-false (c .before .is-whole .result) (c .if1 .left)
 
-list : (c : tie.Else2) → whole 4 44 (c .before .before .before .before .args .list) ≡ true
+list : (c : tie.Else2) → whole 5 44 (c .before .before .before .before .args .list) ≡ true
 list c = sym (c .before .is-whole2 .ensures) ∙ not-false (c .before .is-whole2 .result) (c .if2 .left)
 
 returns-2 : tie.Need-returns-2

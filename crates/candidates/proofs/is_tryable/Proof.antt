@@ -1,14 +1,13 @@
 -- `candidates::is_tryable` meets its contract.
 -- Assumes nothing.
 use Prim.Native.Nat.{_*_}
-use native.Mathlib.Omega.{arith}
 use mathlib.Core.Path.{_≡_, sym, _∙_}
 use mathlib.Core.Bool.{Bool, true}
 use lib.Dec.{eqb}
 use borrow.Author.Needs.{needs}
-use borrow.Author.Tests.{lt-ltb, le-ltb, not-true, not-false}
+use borrow.Author.Tests.{not-true, not-false}
 use Rattle.nr.specs.Answer.{refusal}
-use Rattle.nr.specs.Searching.{fits}
+use Rattle.nr.specs.Searching.{fits, sixteenBits}
 use Rattle.checks.proofs.Refusing.{refused}
 use Rattle.candidates.specs.Tryable.{tryable}
 use Rattle.candidates.proofs.Checked.{sizes-refused, sizes-passed}
@@ -25,17 +24,24 @@ returns c = rw (sym (c .before .is-placed .ensures), not-true (c .before .is-pla
 placed : (c : tie.Else1) → let a = c .before .before .args in fits (a .cces) (a .c .first) (a .c .level) ≡ true
 placed c = sym (c .before .is-placed .ensures) ∙ not-false (c .before .is-placed .result) (c .if1 .left)
 
-returns-2 : tie.Need-returns-2
-returns-2 c = rw (placed (c .before .before), le-ltb _ 65536 (c .if2 .taken))
+has-sixteen-bits-requires : tie.Need-has-sixteen-bits-requires
+has-sixteen-bits-requires c κs = search needs
 
--- past its RNTI, when the sizes have been asked
+returns-2 : tie.Need-returns-2
+returns-2 c = rw (placed (c .before .before), sym (c .before .has-sixteen-bits .ensures), not-true (c .before .has-sixteen-bits .result) (c .if2 .taken))
+
+-- past its RNTI and n_RNTI
+sixteen : (c : tie.Else2) → sixteenBits (c .before .before .before .before .args .c) ≡ true
+sixteen c = sym (c .before .has-sixteen-bits .ensures) ∙ not-false (c .before .has-sixteen-bits .result) (c .if2 .left)
+
+-- when the sizes have been asked
 abbrev start : tie.After-check-sizes → tie.Start
 start v = v .before .before .before .before .before .before .before
 
 asked : (v : tie.After-check-sizes) (b : Bool) → let a = start v .args in eqb (refusal (a .c .a) (108 * a .c .level)) 0 ≡ b → tryable (a .cces) (a .c) ≡ b
 asked v b e =
     let u = v .before .before .before in
-    rw (placed (u .before .before), lt-ltb (start v .args .c .rnti) 65536 (omega (arith, u .if2 .left))) e
+    rw (placed (u .before .before), sixteen u) e
 
 cast-check-sizes : tie.Need-cast-check-sizes
 cast-check-sizes c = search needs
@@ -69,6 +75,7 @@ is-tryable-spec =
     (tie.spec
     is-placed-requires
     returns
+    has-sixteen-bits-requires
     returns-2
     cast-check-sizes
     cast-check-sizes-2

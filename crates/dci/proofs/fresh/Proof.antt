@@ -1,13 +1,15 @@
 -- `dci::fresh` meets its contract.
 -- Assumes nothing.
 use Prim.Native.Nat.{ℕ, _≤_}
-use mathlib.Core.Path.{_≡_, sym, ap, _∙_}
+use native.Mathlib.Omega.{arith}
+use mathlib.Core.Path.{_≡_, sym, ap, ap₂, _∙_}
 use mathlib.Core.List.{List, _++_}
 use lib.ListN.{length, take, drop, replicate}
 use borrow.Author.Needs.{needs}
-use Rattle.nr.specs.Scrambling.{gold, cInit}
+use Rattle.nr.specs.Scrambling.{gold}
 use Rattle.nr.proofs.Construction.{accepted}
 use Rattle.nr.proofs.Refusals.{longest}
+use Rattle.nr.proofs.Starts.{start-lt}
 use Rattle.rows.proofs.Parts.{front-back, front-room, front-size}
 use Rattle.dci.proofs.fresh.Statement.{statement}
 use Rattle.dci.proofs.fresh.Tie as tie
@@ -37,8 +39,8 @@ lent c = front-back (back c) _ (E (start c)) (back-size c)
 construct-requires : tie.Need-construct-requires
 construct-requires c κs = search needs
 
-cast-start : tie.Need-cast-start
-cast-start c = search needs
+c-init-requires : tie.Need-c-init-requires
+c-init-requires c κs = search needs
 
 array-borrow-prefix-terms : tie.Need-array-borrow-prefix-terms
 array-borrow-prefix-terms c = room (c .before .before .before)
@@ -47,7 +49,7 @@ slice-aggregate-sequence : tie.Need-slice-aggregate-sequence
 slice-aggregate-sequence c = sym (size (c .before .before .before .before))
 
 sequence-requires : tie.Need-sequence-requires
-sequence-requires c κs = search needs
+sequence-requires c κs = omega (arith, c .before .c-init .ensures, start-lt (c .before .before .before .before .args .numbers))
 
 array-share-prefix-terms : tie.Need-array-share-prefix-terms
 array-share-prefix-terms c = front-room (back (c .before)) _ _ (back-size (c .before))
@@ -59,7 +61,8 @@ accept-requires : tie.Need-accept-requires
 accept-requires c κs =
     let q = c .before .before .before in
     let s = start q in
-    (s .pre, (c .before .before .before .before .before .before .construct .ensures, lent q ∙ q .sequence .ensures ∙ ap (gold (cInit (s .args .numbers))) (size s ∙ s .pre .1)))
+    let made = q .before .before in
+    (s .pre, (made .before .construct .ensures, lent q ∙ q .sequence .ensures ∙ ap₂ gold (made .c-init .ensures) (size s ∙ s .pre .1)))
 
 same-length : tie.Need-same-length
 same-length c = search needs
@@ -72,7 +75,7 @@ fresh-spec =
     tie.close
     (tie.spec
     construct-requires
-    cast-start
+    c-init-requires
     array-borrow-prefix-terms
     slice-aggregate-sequence
     sequence-requires

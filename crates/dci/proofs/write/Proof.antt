@@ -7,6 +7,7 @@ use lib.ListN.{length, take}
 use Rattle.nr.specs.Numbers.{K}
 use Rattle.nr.specs.Construction.{Layout, layout}
 use Rattle.nr.specs.Coding.{coded}
+use Rattle.nr.proofs.Starts.{start-lt}
 use Rattle.polar.specs.Codes.{code}
 use Rattle.dci.proofs.Made.{code-is, enough, exact, low, high, fits, laid}
 use borrow.Author.Needs.{needs}
@@ -24,6 +25,7 @@ laid-out c = c .before .before .before .before
 returns : tie.Need-returns
 returns c =
     let v = c .before .before in
+    let made = v .before .before .before in
     let k = laid-out (v .before) in
     let s = k .before .before .before in
     let n = s .args .numbers in
@@ -31,7 +33,8 @@ returns c =
     let same : code (l .n) (l .kind) (take (length (s .args .payload .now) + 24) (l .positions)) ≡ layout (K (n .a)) (n .e) =
     rw (size s) (code-is (n .a) (n .e) (s .pre .0) l (k .construct .ensures)) in
     v .send .ensures
-    ∙ ap₂ (λ (l : Layout) (e : ℕ). coded l e (n .rnti) (n .«n_id») (s .args .payload .now)) same (s .pre .2)
+    ∙ ap₂ (λ (l : Layout) (e : ℕ). coded l e (n .rnti) (made .c-init .result) (s .args .payload .now)) same (s .pre .2)
+    ∙ ap (λ (start : ℕ). coded (layout (K (n .a)) (n .e)) (n .e) (n .rnti) start (s .args .payload .now)) (made .c-init .ensures)
 
 construct-requires : tie.Need-construct-requires
 construct-requires c κs = search needs
@@ -39,8 +42,8 @@ construct-requires c κs = search needs
 add-k : tie.Need-add-k
 add-k c = search needs
 
-cast-c-init : tie.Need-cast-c-init
-cast-c-init c = search needs
+c-init-requires : tie.Need-c-init-requires
+c-init-requires c κs = search needs
 
 array-share-prefix-positions : tie.Need-array-share-prefix-positions
 array-share-prefix-positions c =
@@ -63,7 +66,7 @@ send-requires c κs =
     let n = s .args .numbers in
     let l = k .construct .result in
     let e = k .construct .ensures in (
-      (low (n .a) (n .e) (s .pre .0) l e, high (n .a) (n .e) (s .pre .0) l e, rw (s .pre .2) (fits (n .a) (n .e) (s .pre .0) l e), omega (arith, c .before .before .struct-known .given)),
+      (low (n .a) (n .e) (s .pre .0) l e, high (n .a) (n .e) (s .pre .0) l e, rw (s .pre .2) (fits (n .a) (n .e) (s .pre .0) l e), omega (arith, c .before .before .c-init .ensures, start-lt n)),
       (rw (size s) (exact (n .a) (n .e) (s .pre .0) l e), rw (size s) (laid (n .a) (n .e) (s .pre .0) l e), s .pre .3),
     )
 
@@ -76,7 +79,7 @@ write-spec =
     (tie.spec
     construct-requires
     add-k
-    cast-c-init
+    c-init-requires
     array-share-prefix-positions
     slice-aggregate-send
     send-requires

@@ -1,23 +1,18 @@
 -- `search::attempt` meets its contract.
 -- Assumes nothing.
-use mathlib.Core.Path.{refl, sym}
+use mathlib.Core.Path.{sym, ap, _∙_}
 use borrow.Author.Needs.{needs}
+use Rattle.nr.specs.Scrambling.{gold, cInit}
 use Rattle.search.specs.Tries.{Tries}
-use Rattle.search.proofs.Attempts.{sizes, payload-fits, front-size, terms-size, code-is, attempted-is}
+use Rattle.search.proofs.Attempts.{payload-fits, front-size, terms, terms-size, attempted-is}
 use Rattle.search.proofs.attempt.Statement.{statement}
 use Rattle.search.proofs.attempt.Tie as tie
 
-abbrev tries : (s : tie.Start) → let a = s .args in Tries (a .n-id) (a .c) (a .sequence .now) (a .row .now) (a .out .now)
+abbrev tries : (s : tie.Start) → let a = s .args in Tries (a .numbers) (a .sequence .now) (a .row .now) (a .out .now)
 tries s = s .pre .0
 
 abbrev start : tie.After-accept-arg → tie.Start
-start c = c .before .before .before .before .before
-
-cast-a : tie.Need-cast-a
-cast-a c = search needs
-
-cast-t12 : tie.Need-cast-t12
-cast-t12 c = search needs
+start c = c .before .before .before
 
 slice-aggregate-accept : tie.Need-slice-aggregate-accept
 slice-aggregate-accept c = sym (terms-size (tries (start c)))
@@ -32,7 +27,7 @@ accept-requires : tie.Need-accept-requires
 accept-requires c κs =
     let s = start (c .before) in
     let t = tries s in
-    ((sizes t, refl, front-size t, t .range), (code-is t (s .pre .1), t .terms .is))
+    ((t .sizes, t .size, front-size t, t .range), (s .pre .1, terms t .is ∙ ap (gold (cInit (s .args .numbers))) (t .size)))
 
 same-length : tie.Need-same-length
 same-length c = search needs
@@ -46,8 +41,6 @@ pub attempt-spec : {M : Type 1} → statement M
 attempt-spec =
     tie.close
     (tie.spec
-    cast-a
-    cast-t12
     slice-aggregate-accept
     slice-relend-prefix-accept
     slice-aggregate-accept-2

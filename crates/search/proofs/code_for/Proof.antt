@@ -9,16 +9,7 @@ returns : tie.Need-returns
 returns c =
     let t = c .before .before .before in
     let s = t .before .before .before in
-    same-code (s .args .c) (s .pre .1) (t .if1 .taken) (c .if2 .taken) (s .pre .0)
-
-cast-construct : tie.Need-cast-construct
-cast-construct c = search needs
-
-cast-construct-2 : tie.Need-cast-construct-2
-cast-construct-2 c = search needs
-
-mul-construct : tie.Need-mul-construct
-mul-construct c = search needs
+    same-code (s .args .numbers) (s .pre .1) (t .if1 .taken) (c .if2 .taken) (s .pre .0)
 
 construct-requires : tie.Need-construct-requires
 construct-requires c κs = search needs
@@ -27,6 +18,4 @@ returns-2 : tie.Need-returns-2
 returns-2 c = search needs
 
 pub code-for-spec : {M : Type 1} → statement M
-code-for-spec =
-    tie.close
-    (tie.spec returns cast-construct cast-construct-2 mul-construct construct-requires returns-2)
+code-for-spec = tie.close (tie.spec returns construct-requires returns-2)

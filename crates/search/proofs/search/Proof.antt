@@ -12,7 +12,7 @@ use Rattle.nr.proofs.Searching.{refused-is}
 use Rattle.checks.proofs.Refusing.{refused, done}
 use Rattle.candidates.specs.Tryable.{tryable}
 use Rattle.candidates.proofs.Checked.{Able, able}
-use Rattle.search.proofs.Turns.{Passed, none-passed, bad-row, one-more, Kept, none-tried, Turn, skip-unable, skip, skip-refused, found-it, found-none, Stock, no-stock, room, row-fits, tries, no-start, start-at}
+use Rattle.search.proofs.Turns.{Passed, none-passed, bad-row, one-more, Kept, none-tried, Turn, skip-unable, skip, skip-refused, found-it, found-none, Stock, no-stock, room, numbers-sizes, numbers-fit, tries, no-start, start-at}
 use Rattle.search.proofs.search.Statement.{statement}
 use Rattle.search.proofs.search.Tie as tie
 
@@ -27,11 +27,11 @@ abbrev μ-values : tie.MeasureT-values
 
 abbrev Inv-candidates : tie.InvT-candidates
 Inv-candidates n-id region list out₀ number₀ candidate₀ refused sequence₀ ready₀ code₀ before₀ i₀ i-end out number candidate sequence ready code before i =
-    Kept n-id region list out₀ out i × Stock n-id sequence ready code before
+    Kept n-id region list out₀ out i × Stock sequence ready code before
 
 abbrev μ-candidates : tie.MeasureT-candidates
 μ-candidates n-id region list out₀ number₀ candidate₀ refused sequence₀ ready₀ code₀ before₀ i₀ i-end out number candidate sequence ready code before i =
-    length list / 4 - i
+    length list / 5 - i
 
 -- ---- what holds at the places of the code
 
@@ -49,6 +49,9 @@ At-values = tie.At-values Inv-values μ-values Inv-candidates μ-candidates
 
 abbrev After-values : Type 0
 After-values = tie.After-values Inv-values μ-values Inv-candidates μ-candidates
+
+abbrev After-numbers-of : Type 0
+After-numbers-of = tie.After-numbers-of Inv-values μ-values Inv-candidates μ-candidates
 
 abbrev After-extend : Type 0
 After-extend = tie.After-extend Inv-values μ-values Inv-candidates μ-candidates
@@ -84,8 +87,11 @@ allowed v = v .before .before .before .before
 abbrev extended : After-attempt-arg → After-extend
 extended c = c .before .before .before
 
+abbrev numbered : After-extend → After-numbers-of
+numbered c = c .before .before .before
+
 abbrev passed : After-extend → After-values
-passed c = c .before .before .before
+passed c = numbered c .before
 
 -- past the sizes
 sized : (h : At-candidates) → let a = start h .args in 0 ≡ searchRefusal (length (a .region .now)) (length (a .list .now)) (length (a .out .now))
@@ -114,7 +120,7 @@ turn-here v =
 
 -- what is kept, and what trying it asks and leaves
 stock : (v : At-values) → let h = head (taken (allowed v)) .candidates in
-    Stock (start (head (taken (allowed v))) .args .n-id) (h .sequence) (h .ready) (h .code) (h .before)
+    Stock (h .sequence) (h .ready) (h .code) (h .before)
 stock v = head (taken (allowed v)) .candidates .inv .1
 
 -- the sequence that it is tried with
@@ -143,12 +149,12 @@ returns c =
 no-code-requires : tie.Need-no-code-requires Inv-values μ-values Inv-candidates μ-candidates
 no-code-requires c κs = search needs
 
-no-candidate-requires :
-    tie.Need-no-candidate-requires Inv-values μ-values Inv-candidates μ-candidates
-no-candidate-requires c κs = search needs
+no-numbers-requires :
+    tie.Need-no-numbers-requires Inv-values μ-values Inv-candidates μ-candidates
+no-numbers-requires c κs = search needs
 
 candidates-holds : tie.Need-candidates-holds Inv-values μ-values Inv-candidates μ-candidates
-candidates-holds c = (none-tried _ _ _ _, no-stock _ _ (c .no-candidate .ensures))
+candidates-holds c = (none-tried _ _ _ _, no-stock _ (c .no-numbers .ensures))
 
 candidate-at-requires :
     tie.Need-candidate-at-requires Inv-values μ-values Inv-candidates μ-candidates
@@ -238,18 +244,22 @@ values-again c =
     let v = b .before .before .before in
     (v .values .inv .0, one-more (v .values .inv .1) (b .before .before .values-test .taken) (b .is-outside .result) (b .is-outside .ensures) (record { sfits = b .before .x .given }) (c .if3 .left))
 
+numbers-of-requires : tie.Need-numbers-of-requires Inv-values μ-values Inv-candidates μ-candidates
+numbers-of-requires c κs = takes (allowed (c .before)) .sixteen
+
 code-for-requires : tie.Need-code-for-requires Inv-values μ-values Inv-candidates μ-candidates
-code-for-requires c κs = (takes (allowed (c .before)) .sizes, stock (c .before) .kept)
+code-for-requires c κs = let v = c .before .before in (numbers-sizes (takes (allowed v)) (c .numbers-of .ensures), stock v .kept)
 
 slice-aggregate-extend :
     tie.Need-slice-aggregate-extend Inv-values μ-values Inv-candidates μ-candidates
-slice-aggregate-extend c = sym (stock (c .before .before .before) .size)
+slice-aggregate-extend c = sym (stock (c .before .before .before .before) .size)
 
 extend-requires : tie.Need-extend-requires Inv-values μ-values Inv-candidates μ-candidates
 extend-requires c κs =
-    let v = c .before .before .before in
+    let q = c .before .before in
+    let v = q .before .before in
     let k = stock v in
-    (omega (arith, k .size, row-fits (v .values .inv .1) (takes (allowed v))), k .terms)
+    (omega (arith, k .size, numbers-fit (takes (allowed v)) (q .numbers-of .ensures)), k .terms)
 
 slice-aggregate-attempt :
     tie.Need-slice-aggregate-attempt Inv-values μ-values Inv-candidates μ-candidates
@@ -260,7 +270,8 @@ attempt-requires c κs =
     let x = extended c in
     let p = passed x in
     let v = p .before in
-    (tries (turn-here v) (takes (allowed v)) (v .values .inv .1) (p .values-test .left) (sized (head (taken (allowed v)))) (x .extend .ensures), x .before .before .code-for .ensures)
+    let s-is = numbered x .numbers-of .ensures in
+    (tries (turn-here v) (takes (allowed v)) (v .values .inv .1) s-is (p .values-test .left) (sized (head (taken (allowed v)))) (x .extend .ensures), x .before .before .code-for .ensures)
 
 enum-told : tie.Need-enum-told Inv-values μ-values Inv-candidates μ-candidates
 enum-told c = search needs
@@ -268,15 +279,15 @@ enum-told c = search needs
 same-length : tie.Need-same-length Inv-values μ-values Inv-candidates μ-candidates
 same-length c =
     let d = c .before .before .before .before in
-    d .attempt .kept .1 .1 .1 .1 .1 .0 ∙ ap length (turn-here (passed (extended (d .before)) .before) .kept .same)
+    d .attempt .kept .1 .1 .1 .1 .0 ∙ ap length (turn-here (passed (extended (d .before)) .before) .kept .same)
 
 returns-2 : tie.Need-returns-2 Inv-values μ-values Inv-candidates μ-candidates
 returns-2 c =
     let d = c .before .before .before .before in
-    let p = passed (extended (d .before)) in
-    let v = p .before in
+    let x = extended (d .before) in
+    let v = passed x .before in
     let t = turn-here v in
-    let f = found-it t (tried (allowed v)) (v .values .inv .1 .is) (d .attempt .result) (d .attempt .last .1 .1 .1 .1 .1 .0) (d .attempt .ensures)
+    let f = found-it t (tried (allowed v)) (v .values .inv .1 .is) (numbered x .numbers-of .ensures) (d .attempt .result) (d .attempt .last .1 .1 .1 .1 .0) (d .attempt .ensures)
     (done (d .attempt .result) (c .enum-told .given .1)) (sized (head (taken (allowed v)))) in
     let at = start (head (taken (allowed v))) .args .region .ptr in
     (f, ap (λ (n : ℕ). (at .0, n + at .1)) (start-at t _ _ _ f))
@@ -287,14 +298,14 @@ add-i-3 c =
     omega (arith, turn-here v .below, start (head (taken (allowed v))) .good)
 
 candidates-less-3 : tie.Need-candidates-less-3 Inv-values μ-values Inv-candidates μ-candidates
-candidates-less-3 c = omega arith
+candidates-less-3 c = omega (arith, turn-here (passed (extended (c .before .before .before .before)) .before) .below)
 
 candidates-again-3 : tie.Need-candidates-again-3 Inv-values μ-values Inv-candidates μ-candidates
 candidates-again-3 c =
     let d = c .before .before .before in
     let x = extended (d .before) in
     let v = passed x .before in (
-      skip-refused (turn-here v) (tried (allowed v)) (v .values .inv .1 .is) (d .attempt .result) (d .attempt .last .1 .1 .1 .1 .1 .0) (d .attempt .ensures)
+      skip-refused (turn-here v) (tried (allowed v)) (v .values .inv .1 .is) (numbered x .numbers-of .ensures) (d .attempt .result) (d .attempt .last .1 .1 .1 .1 .0) (d .attempt .ensures)
           (refused (d .attempt .result) (c .match .keys2)),
       record { size = sequence-size x; terms = x .extend .ensures .1; kept = record { is = λ e. x .before .before .code-for .ensures } },
     )
@@ -326,7 +337,7 @@ search-spec =
     nothing-requires
     returns
     no-code-requires
-    no-candidate-requires
+    no-numbers-requires
     candidates-holds
     candidate-at-requires
     is-tryable-requires
@@ -352,6 +363,7 @@ search-spec =
     add-k
     values-less
     values-again
+    numbers-of-requires
     code-for-requires
     slice-aggregate-extend
     extend-requires
