@@ -23,9 +23,9 @@ extern "C" {
 
 /* The version of this header and of the archive that it comes with. */
 #define SPELT_VERSION_MAJOR 0
-#define SPELT_VERSION_MINOR 2
+#define SPELT_VERSION_MINOR 3
 #define SPELT_VERSION_PATCH 0
-#define SPELT_VERSION "0.2.0"
+#define SPELT_VERSION "0.3.0"
 
 /*
  * The numbers given back. They are tested in this order, and the first that
@@ -90,13 +90,19 @@ enum spelt_number {
  *   e        coded length E: 108, 216, 432, 864 or 1728 bits (aggregation
  *            level 1, 2, 4, 8 or 16)
  *   rnti     radio number, added to the last 16 parity bits: 0 to 65535
- *   n_id     scrambling identity, the start value of the Gold sequence: 0 to
- *            65535
+ *   n_id     scrambling identity n_ID: 0 to 65535
+ *   n_rnti   n_RNTI of TS 38.211 7.3.2.3: the C-RNTI in a UE-specific search
+ *            space for which pdcch-DMRS-ScramblingID is configured, and 0
+ *            otherwise; 0 to 65535. It need not be rnti.
  *
- * C cuts what is handed in as rnti or n_id to 16 bits before the call, and says
- * nothing: an int of 65536 + 7 arrives as 7, and one of -1 as 65535. No number
- * given back tells of it, so check wider variables first (-Wconversion finds
- * them).
+ * The Gold sequence starts from c_init = (n_rnti * 2^16 + n_id) mod 2^31, so
+ * from n_id alone where n_rnti is 0. The top bit of n_rnti falls out: 0x8000
+ * scrambles as 0 does.
+ *
+ * C cuts what is handed in as rnti, n_id or n_rnti to 16 bits before the call,
+ * and says nothing: an int of 65536 + 7 arrives as 7, and one of -1 as 65535. No
+ * number given back tells of it, so check wider variables first (-Wconversion
+ * finds them).
  *
  * No pointer may be null, not even where its length is 0. Each must be valid
  * for as many entries as its length says (inputs are read; out is read and
@@ -116,11 +122,12 @@ enum spelt_number {
  *   out      takes the coded bits, a bit in each byte, first bit first
  *
  *   uint8_t out[432];
- *   uint64_t r = spelt_encode(37, 432, 0xFFFF, n_id, payload, 37, out, 432);
+ *   uint64_t r = spelt_encode(37, 432, 0xFFFF, n_id, 0, payload, 37, out, 432);
  *   if (SPELT_NUMBER(r) == SPELT_BAD_ENTRY)
  *       printf("byte %zu is not a bit\n", SPELT_PLACE(r));
  */
 uint64_t spelt_encode(uint64_t a, uint64_t e, uint16_t rnti, uint16_t n_id,
+                      uint16_t n_rnti,
                       const uint8_t *payload, size_t payload_len,
                       uint8_t *out, size_t out_len);
 
@@ -134,14 +141,15 @@ uint64_t spelt_encode(uint64_t a, uint64_t e, uint16_t rnti, uint16_t n_id,
  *   out      takes the payload, a bit in each byte, first bit first
  *
  * SPELT_PARITY_MISMATCH says that no payload was found under these numbers: too
- * much noise, another RNTI, n_id or size, or no message at all.
+ * much noise, another RNTI, n_id, n_rnti or size, or no message at all.
  *
  *   uint8_t payload[37];
- *   uint64_t r = spelt_decode(37, 432, 0xFFFF, n_id, soft, 432, payload, 37);
+ *   uint64_t r = spelt_decode(37, 432, 0xFFFF, n_id, 0, soft, 432, payload, 37);
  *   if (SPELT_NUMBER(r) == SPELT_DONE)
  *       take(payload);
  */
 uint64_t spelt_decode(uint64_t a, uint64_t e, uint16_t rnti, uint16_t n_id,
+                      uint16_t n_rnti,
                       const int32_t *soft, size_t soft_len,
                       uint8_t *out, size_t out_len);
 
@@ -159,6 +167,7 @@ uint64_t spelt_decode(uint64_t a, uint64_t e, uint16_t rnti, uint16_t n_id,
  * place is k for payload[k] and a + k for strengths[k].
  */
 uint64_t spelt_loopback(uint64_t a, uint64_t e, uint16_t rnti, uint16_t n_id,
+                        uint16_t n_rnti,
                         const uint8_t *payload, size_t payload_len,
                         const int32_t *strengths, size_t strengths_len,
                         uint8_t *out, size_t out_len);
@@ -175,14 +184,15 @@ typedef struct spelt_candidate {
     uint32_t level;     /* aggregation level, its CCEs: 1, 2, 4, 8 or 16 */
     uint32_t a;         /* payload size */
     uint32_t rnti;      /* radio number */
+    uint32_t n_rnti;    /* n_RNTI: 0 in a common search space */
 } spelt_candidate;
 
-/* A list of them is a list of four numbers for each: else this is an error. */
-typedef char spelt_candidate_is_four_numbers
-    [sizeof(spelt_candidate) == 4 * sizeof(uint32_t) ? 1 : -1];
+/* A list of them is a list of five numbers for each: else this is an error. */
+typedef char spelt_candidate_is_five_numbers
+    [sizeof(spelt_candidate) == 5 * sizeof(uint32_t) ? 1 : -1];
 
-/* spelt_search, with the list as numbers: four for each candidate, in the order
- * of the struct. SPELT_INPUT_LENGTH also where they are not whole fours. */
+/* spelt_search, with the list as numbers: five for each candidate, in the order
+ * of the struct. SPELT_INPUT_LENGTH also where they are not whole fives. */
 uint64_t spelt_search_list(uint16_t n_id,
                            const int32_t *region, size_t region_len,
                            const uint32_t *candidates, size_t candidates_len,
@@ -204,11 +214,11 @@ uint64_t spelt_search_list(uint16_t n_id,
  *               first
  *
  * A candidate decodes exactly if it lies in the region as a message may and
- * spelt_decode gives SPELT_DONE for its own 108 * level values under its a and
- * rnti. So it counts as not decoding, and the next is tried, if its level is
- * not 1, 2, 4, 8 or 16, its first CCE is not a multiple of its level, it
- * reaches outside the region, its rnti is above 65535 (nothing is cut to 16
- * bits here), or one of the numbers 1 to 6 applies to it. A value outside
+ * spelt_decode gives SPELT_DONE for its own 108 * level values under its a, rnti
+ * and n_rnti. So it counts as not decoding, and the next is tried, if its level
+ * is not 1, 2, 4, 8 or 16, its first CCE is not a multiple of its level, it
+ * reaches outside the region, its rnti or n_rnti is above 65535 (nothing is cut
+ * to 16 bits here), or one of the numbers 1 to 6 applies to it. A value outside
  * -127..127 bars only the candidates that it is a part of.
  *
  * SPELT_DONE           SPELT_CANDIDATE(r) is the first candidate that decodes;
@@ -222,7 +232,7 @@ uint64_t spelt_search_list(uint16_t n_id,
  * SPELT_NO_CANDIDATE   none decodes, as where the region or the list is empty
  *
  * To find further messages, search again with the candidates behind the one
- * named.
+ * named. Search spaces with different n_id take a search each.
  *
  * A message of level 16 may also decode as one of level 8 with the same first
  * CCE, and without noise does, since its first 864 bits are those of level 8;
@@ -234,7 +244,8 @@ uint64_t spelt_search_list(uint16_t n_id,
  * what docs/BLER.md measures for single rows; for 44 about 3 in a million.
  *
  *   static const spelt_candidate list[] = {
- *       {0, 8, 40, 0x4601}, {8, 8, 40, 0x4601}, {4, 4, 40, 0xFFFF}};
+ *       {0, 8, 40, 0x4601, 0x4601}, {8, 8, 40, 0x4601, 0x4601},
+ *       {4, 4, 40, 0xFFFF, 0}};
  *   uint8_t payload[SPELT_MAX_PAYLOAD];
  *   uint64_t r = spelt_search(n_id, region, 48 * SPELT_CCE, list, 3,
  *                             payload, SPELT_MAX_PAYLOAD);
@@ -254,7 +265,7 @@ static inline uint64_t spelt_search(uint16_t n_id,
     const void *list = candidates;
     return spelt_search_list(n_id, region, region_len,
                              SPELT_AS(const uint32_t *, list),
-                             4 * (count < most ? count : most), out, out_len);
+                             5 * (count < most ? count : most), out, out_len);
 }
 
 /* What a position of a code is for. */

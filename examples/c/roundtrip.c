@@ -48,13 +48,15 @@ int main(void)
         payload[i] = i % 3 == 0; /* a bit in each byte, first bit first */
     print_bits("payload", payload, A);
 
-    uint64_t r = spelt_encode(A, E, rnti, n_id, payload, A, sent, E);
+    /* In the handset's own search space, with an n_ID that is configured for
+     * it: n_RNTI is its RNTI. Elsewhere n_RNTI is 0. */
+    uint64_t r = spelt_encode(A, E, rnti, n_id, rnti, payload, A, sent, E);
     if (SPELT_NUMBER(r) != SPELT_DONE)
         return refused("spelt_encode", r);
     print_bits("sent", sent, E);
 
     receive(sent, soft);
-    r = spelt_decode(A, E, rnti, n_id, soft, E, got, A);
+    r = spelt_decode(A, E, rnti, n_id, rnti, soft, E, got, A);
     if (SPELT_NUMBER(r) != SPELT_DONE)
         return refused("spelt_decode", r);
     print_bits("got", got, A);
@@ -62,7 +64,7 @@ int main(void)
         return 1;
 
     /* A handset with another RNTI finds no message in the same values. */
-    r = spelt_decode(A, E, another_rnti, n_id, soft, E, got, A);
+    r = spelt_decode(A, E, another_rnti, n_id, another_rnti, soft, E, got, A);
     printf("another RNTI: %s\n",
            SPELT_NUMBER(r) == SPELT_PARITY_MISMATCH ? "no message" : "?");
     return SPELT_NUMBER(r) == SPELT_PARITY_MISMATCH ? 0 : 1;

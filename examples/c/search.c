@@ -37,15 +37,29 @@ static void put(const uint8_t *bits, int32_t *at)
         at[k] += bits[k] == 0 ? 30 : -30;
 }
 
-/* Every place of levels 8, 4 and 2 that the region has; gives their count. */
+/* Every place of a level that the region has, behind the count that the list
+ * has already; gives the new count. */
+static size_t add_places(spelt_candidate *list, size_t count, uint32_t level,
+                         uint16_t rnti, uint16_t n_rnti)
+{
+    for (uint32_t first = 0; first < CCES; first += level) {
+        spelt_candidate place = {first, level, A, rnti, n_rnti};
+        list[count++] = place;
+    }
+    return count;
+}
+
+/* A handset's list: levels 8 and 4 of a common search space, where n_RNTI is 0,
+ * then levels 8, 4 and 2 of its own, with an n_ID that is configured for it, so
+ * that n_RNTI is its RNTI. Both have the same n_ID here, so that one search will
+ * do. Gives the count. */
 static size_t list_places(uint16_t rnti, spelt_candidate *list)
 {
     size_t count = 0;
+    for (uint32_t level = 8; level >= 4; level /= 2)
+        count = add_places(list, count, level, rnti, 0);
     for (uint32_t level = 8; level >= 2; level /= 2)
-        for (uint32_t first = 0; first < CCES; first += level) {
-            spelt_candidate place = {first, level, A, rnti};
-            list[count++] = place;
-        }
+        count = add_places(list, count, level, rnti, rnti);
     return count;
 }
 
@@ -57,7 +71,8 @@ int main(void)
     for (int i = 0; i < A; i++)
         payload[i] = i % 3 == 0; /* a bit in each byte, first bit first */
 
-    uint64_t r = spelt_encode(A, E, own_rnti, n_id, payload, A, sent, E);
+    uint64_t r =
+        spelt_encode(A, E, own_rnti, n_id, own_rnti, payload, A, sent, E);
     if (SPELT_NUMBER(r) != SPELT_DONE)
         return refused("spelt_encode", r);
     fill(region);
@@ -70,9 +85,11 @@ int main(void)
         return refused("spelt_search", r);
     const spelt_candidate *found = &list[SPELT_CANDIDATE(r)];
     printf("candidate %zu of %zu: %" PRIu32 " bits from CCE %" PRIu32
-           ", level %" PRIu32 "\n",
-           SPELT_CANDIDATE(r), count, found->a, found->first_cce, found->level);
-    if (found->first_cce != FIRST || memcmp(got, payload, A) != 0)
+           ", level %" PRIu32 ", n_RNTI %04" PRIX32 "\n",
+           SPELT_CANDIDATE(r), count, found->a, found->first_cce, found->level,
+           found->n_rnti);
+    if (found->first_cce != FIRST || found->n_rnti != own_rnti ||
+        memcmp(got, payload, A) != 0)
         return 1;
 
     /* A handset with another RNTI finds no message in the same values. */

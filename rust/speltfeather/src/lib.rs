@@ -7,7 +7,7 @@
 //! ```
 //! use speltfeather::{Numbers, Refusal, decode, encode};
 //!
-//! let numbers = Numbers { a: 40, e: 216, rnti: 0x4601, n_id: 500 };
+//! let numbers = Numbers { a: 40, e: 216, rnti: 0x4601, n_id: 500, n_rnti: 0 };
 //! let payload = [1; 40];
 //! let mut coded = [0; 216];
 //! encode(&numbers, &payload, &mut coded)?;
@@ -52,8 +52,12 @@ pub struct Numbers {
     pub e: u64,
     /// Radio number, added to the last 16 parity bits.
     pub rnti: u16,
-    /// Scrambling identity, the start value of the Gold sequence.
+    /// Scrambling identity n_ID.
     pub n_id: u16,
+    /// n_RNTI of TS 38.211 7.3.2.3: the C-RNTI in a UE-specific search space for which
+    /// pdcch-DMRS-ScramblingID is configured, and 0 otherwise. It need not be `rnti`. The Gold sequence
+    /// starts from (n_RNTI * 2^16 + n_ID) mod 2^31, so that 0x8000 scrambles as 0 does.
+    pub n_rnti: u16,
 }
 
 /// Why a call gave no result. The first that applies, in this order, is given.
@@ -121,6 +125,7 @@ unsafe extern "C" {
         e: u64,
         rnti: u16,
         n_id: u16,
+        n_rnti: u16,
         payload: *const u8,
         payload_len: usize,
         out: *mut u8,
@@ -132,6 +137,7 @@ unsafe extern "C" {
         e: u64,
         rnti: u16,
         n_id: u16,
+        n_rnti: u16,
         soft: *const i32,
         soft_len: usize,
         out: *mut u8,
@@ -143,6 +149,7 @@ unsafe extern "C" {
         e: u64,
         rnti: u16,
         n_id: u16,
+        n_rnti: u16,
         payload: *const u8,
         payload_len: usize,
         strengths: *const i32,
@@ -172,7 +179,7 @@ unsafe extern "C" {
 /// use speltfeather::{Numbers, Refusal, encode};
 ///
 /// // The DCI that announces SIB1, with the RNTI of system information.
-/// let numbers = Numbers { a: 37, e: 432, rnti: 0xFFFF, n_id: 1 };
+/// let numbers = Numbers { a: 37, e: 432, rnti: 0xFFFF, n_id: 1, n_rnti: 0 };
 /// let mut payload = [0; 37];
 /// for place in [1, 3, 5, 16, 18] {
 ///     payload[place] = 1;
@@ -198,6 +205,7 @@ pub fn encode(numbers: &Numbers, payload: &[u8], out: &mut [u8]) -> Result<(), R
             numbers.e,
             numbers.rnti,
             numbers.n_id,
+            numbers.n_rnti,
             payload.as_ptr(),
             payload.len(),
             out.as_mut_ptr(),
@@ -218,7 +226,7 @@ pub fn encode(numbers: &Numbers, payload: &[u8], out: &mut [u8]) -> Result<(), R
 /// ```
 /// use speltfeather::{Numbers, Refusal, decode, encode};
 ///
-/// let numbers = Numbers { a: 12, e: 108, rnti: 0x4601, n_id: 500 };
+/// let numbers = Numbers { a: 12, e: 108, rnti: 0x4601, n_id: 500, n_rnti: 0 };
 /// let payload = [1, 0, 1, 1, 0, 0, 1, 0, 1, 1, 1, 0];
 /// let mut coded = [0; 108];
 /// encode(&numbers, &payload, &mut coded)?;
@@ -231,9 +239,10 @@ pub fn encode(numbers: &Numbers, payload: &[u8], out: &mut [u8]) -> Result<(), R
 /// decode(&numbers, &soft, &mut out)?;
 /// assert_eq!(out, payload);
 ///
-/// // A message for another RNTI is not taken.
-/// let other = Numbers { rnti: 0x4602, ..numbers };
-/// assert_eq!(decode(&other, &soft, &mut out), Err(Refusal::ParityMismatch));
+/// // A message for another RNTI, or scrambled for another n_RNTI, is not taken.
+/// for other in [Numbers { rnti: 0x4602, ..numbers }, Numbers { n_rnti: 0x4601, ..numbers }] {
+///     assert_eq!(decode(&other, &soft, &mut out), Err(Refusal::ParityMismatch));
+/// }
 /// soft[107] = 128;
 /// assert_eq!(decode(&numbers, &soft, &mut out), Err(Refusal::BadEntry(107)));
 /// # Ok::<(), Refusal>(())
@@ -249,6 +258,7 @@ pub fn decode(numbers: &Numbers, soft: &[i32], out: &mut [u8]) -> Result<(), Ref
             numbers.e,
             numbers.rnti,
             numbers.n_id,
+            numbers.n_rnti,
             soft.as_ptr(),
             soft.len(),
             out.as_mut_ptr(),
@@ -267,7 +277,7 @@ pub fn decode(numbers: &Numbers, soft: &[i32], out: &mut [u8]) -> Result<(), Ref
 /// ```
 /// use speltfeather::{Numbers, Refusal, loopback};
 ///
-/// let numbers = Numbers { a: 40, e: 216, rnti: 0x4601, n_id: 500 };
+/// let numbers = Numbers { a: 40, e: 216, rnti: 0x4601, n_id: 500, n_rnti: 0 };
 /// let payload = [1; 40];
 /// let mut strengths: Vec<i32> = (1..=127).cycle().take(216).collect();
 /// let mut out = [0; 40];
@@ -294,6 +304,7 @@ pub fn loopback(
             numbers.e,
             numbers.rnti,
             numbers.n_id,
+            numbers.n_rnti,
             payload.as_ptr(),
             payload.len(),
             strengths.as_ptr(),
@@ -324,10 +335,12 @@ pub struct Candidate {
     pub a: u32,
     /// Radio number: at most 65535.
     pub rnti: u32,
+    /// n_RNTI, as in [`Numbers::n_rnti`]: at most 65535, and 0 in a common search space.
+    pub n_rnti: u32,
 }
 
 // The library takes a list of candidates as a list of numbers.
-const _: () = assert!(size_of::<Candidate>() == 4 * size_of::<u32>());
+const _: () = assert!(size_of::<Candidate>() == 5 * size_of::<u32>());
 
 /// What a search has found.
 #[derive(Clone, Copy, Debug, PartialEq, Eq)]
@@ -352,10 +365,11 @@ pub struct Found<'a> {
 /// A candidate decodes exactly if it lies in the region as a message may and [`decode`] accepts its own
 /// `108 * level` values under its numbers. So it counts as not decoding, and the next is tried, if its
 /// level is not 1, 2, 4, 8 or 16, its first CCE is not a multiple of its level, it reaches outside the
-/// region, its RNTI is above 65535, or one of the numbers 1 to 6 applies to it. A soft value outside
-/// -127..=127 bars only the candidates that it is a part of.
+/// region, its RNTI or n_RNTI is above 65535, or one of the numbers 1 to 6 applies to it. A soft value
+/// outside -127..=127 bars only the candidates that it is a part of.
 ///
-/// To find further messages, search again with the candidates behind the one named.
+/// To find further messages, search again with the candidates behind the one named. Search spaces with
+/// different n_ID take a search each.
 ///
 /// A message of level 16 may also decode as one of level 8 with the same first CCE, and without noise
 /// does, since its first 864 bits are those of level 8; one of level 8 may decode as one of level 16.
@@ -369,14 +383,14 @@ pub struct Found<'a> {
 /// use speltfeather::{CCE, Candidate, MAX_PAYLOAD, Numbers, Refusal, encode, search};
 ///
 /// // A message of level 2 in the CCEs 4 and 5 of a region of 8.
-/// let numbers = Numbers { a: 40, e: 216, rnti: 0x4601, n_id: 500 };
+/// let numbers = Numbers { a: 40, e: 216, rnti: 0x4601, n_id: 500, n_rnti: 0 };
 /// let sent = [1; 40];
 /// let mut coded = [0; 216];
 /// encode(&numbers, &sent, &mut coded)?;
 /// let mut region = [0; 8 * CCE];
 /// region[4 * CCE..6 * CCE].copy_from_slice(&coded.map(|bit| if bit == 0 { 20 } else { -20 }));
 ///
-/// let at = |first_cce, level| Candidate { first_cce, level, a: 40, rnti: 0x4601 };
+/// let at = |first_cce, level| Candidate { first_cce, level, a: 40, rnti: 0x4601, n_rnti: 0 };
 /// let list = [at(0, 8), at(0, 2), at(2, 2), at(4, 2), at(6, 2)];
 /// let mut payload = [9; MAX_PAYLOAD];
 /// let found = search(500, &region, &list, &mut payload)?;
@@ -398,15 +412,15 @@ pub fn search<'a>(
     candidates: &[Candidate],
     payload: &mut [u8],
 ) -> Result<Found<'a>, Refusal> {
-    // SAFETY: as in `encode`. A candidate is four numbers without room between them, so the list is
-    // valid as numbers too; a slice has at most isize::MAX bytes, so four times its length cannot wrap.
+    // SAFETY: as in `encode`. A candidate is five numbers without room between them, so the list is
+    // valid as numbers too; a slice has at most isize::MAX bytes, so five times its length cannot wrap.
     let answer = unsafe {
         spelt_search_list(
             n_id,
             region.as_ptr(),
             region.len(),
             candidates.as_ptr().cast(),
-            4 * candidates.len(),
+            5 * candidates.len(),
             payload.as_mut_ptr(),
             payload.len(),
         )
