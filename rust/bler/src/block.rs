@@ -25,7 +25,7 @@ pub enum Verdict {
 impl Block {
     /// A random payload, with any RNTI and identity, after the channel.
     pub fn drawn(a: u64, e: u64, channel: &Channel, random: &mut Random) -> Self {
-        let numbers = random.numbers(a, e);
+        let numbers = random.common_numbers(a, e);
         let payload = random.bits(a as usize);
         let mut coded = vec![0; e as usize];
         encode(&numbers, &payload, &mut coded).expect("accepted sizes");
@@ -145,9 +145,22 @@ mod tests {
     }
 
     fn second_verdict(block: &Block) -> Verdict {
-        let Numbers { a, e, rnti, n_id } = block.numbers;
+        let Numbers {
+            a,
+            e,
+            rnti,
+            n_id,
+            n_rnti,
+        } = block.numbers;
+        let numbers = reference::Numbers {
+            a,
+            e,
+            rnti,
+            n_id,
+            n_rnti,
+        };
         let mut out = vec![0; a as usize];
-        match reference::decode(a, e, rnti, n_id, &block.soft, &mut out) {
+        match reference::decode(&numbers, &block.soft, &mut out) {
             (0, 0) if out == block.payload => Verdict::Read,
             (0, 0) => Verdict::Wrong,
             answer => {

@@ -142,7 +142,7 @@ fn accepted(case: &Case, rows: u64, noise: &Noise, random: &mut Random) -> Count
     let mut count = Count { rows, accepted: 0 };
     for _ in 0..rows {
         noise.fill(&mut soft, random);
-        match decode(&random.numbers(case.a, case.e), &soft, &mut out) {
+        match decode(&random.common_numbers(case.a, case.e), &soft, &mut out) {
             Ok(()) => count.accepted += 1,
             Err(Refusal::ParityMismatch) => {}
             Err(refusal) => panic!("{refusal} for a row that can be decoded"),

@@ -1,7 +1,8 @@
 //! How often the proved library reads a noisy message rightly, and how often it takes noise for one.
 //!
 //! Seed and sizes fix every figure: work is cut into numbered batches, each with random numbers of its
-//! own, and they are counted in order, however many threads work.
+//! own, and they are counted in order, however many threads work. n_RNTI is 0 throughout, as it was
+//! before version 0.3.0, so that the figures of then stand.
 
 pub mod batches;
 pub mod block;

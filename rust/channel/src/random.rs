@@ -80,9 +80,24 @@ impl Random {
         radius * cos
     }
 
-    /// Numbers for sizes, with any RNTI and identity.
+    /// Numbers for sizes, with any RNTI, n_ID and n_RNTI. The last two come out of one draw, so that
+    /// what is drawn behind them is what a seed gave before there was an n_RNTI.
     pub fn numbers(&mut self, a: u64, e: u64) -> Numbers {
-        let (rnti, n_id) = (self.u16(), self.u16());
-        Numbers { a, e, rnti, n_id }
+        let (rnti, start) = (self.u16(), self.u64());
+        Numbers {
+            a,
+            e,
+            rnti,
+            n_id: start as u16,
+            n_rnti: (start >> 16) as u16,
+        }
+    }
+
+    /// The same in a common search space: n_RNTI is 0.
+    pub fn common_numbers(&mut self, a: u64, e: u64) -> Numbers {
+        Numbers {
+            n_rnti: 0,
+            ..self.numbers(a, e)
+        }
     }
 }

@@ -3,7 +3,7 @@
 
 use crate::construction::{Kind, Layout};
 use crate::rate_matching::{selected, sub_block};
-use crate::{carried, parity, scrambling, transform};
+use crate::{Numbers, carried, parity, scrambling, transform};
 
 /// The value of a shortened position, whose bit is known to be 0.
 pub const CERTAIN: i64 = 1_048_576;
@@ -19,8 +19,8 @@ pub fn g(v: u8, a: i64, b: i64) -> i64 {
 }
 
 /// Soft values with the scrambling undone: negated where the term of the Gold sequence is 1.
-pub fn descrambled(soft: &[i32], n_id: u16) -> Vec<i64> {
-    let signs = scrambling::gold(n_id, soft.len()).into_iter();
+pub fn descrambled(soft: &[i32], n_id: u16, n_rnti: u16) -> Vec<i64> {
+    let signs = scrambling::gold(n_id, n_rnti, soft.len()).into_iter();
     signs
         .zip(soft)
         .map(|(c, &value)| i64::from(value) * (1 - 2 * i64::from(c)))
@@ -87,8 +87,8 @@ fn half(row: &[i64], second: bool, u: &[u8]) -> Vec<i64> {
 }
 
 /// The payload in E soft values; none if the parity does not match.
-pub fn payload(layout: &Layout, rnti: u16, n_id: u16, soft: &[i32]) -> Option<Vec<u8>> {
-    let values = gathered(layout, &descrambled(soft, n_id));
+pub fn payload(layout: &Layout, numbers: &Numbers, soft: &[i32]) -> Option<Vec<u8>> {
+    let values = gathered(layout, &descrambled(soft, numbers.n_id, numbers.n_rnti));
     let row = carried(layout, &decided(&layout.chosen, values).u);
-    parity::matches(&row, rnti).then(|| row[..layout.k - parity::BITS].to_vec())
+    parity::matches(&row, numbers.rnti).then(|| row[..layout.k - parity::BITS].to_vec())
 }

@@ -3,9 +3,9 @@
 //! It follows the same rules (TS 38.212 5.3.1, 5.4.1, 7.3.2 to 7.3.4; TS 38.211 5.2.1, 7.3.2.3) by
 //! other means, so that one mistake is unlikely to be made twice: the CRC is a division of numbers,
 //! the transform a product with the matrix, the interleaver is rebuilt from the generator, the
-//! reliability order comes from another print, the Gold sequence is its recurrence on arrays, the
-//! decoder goes from position to position instead of calling itself on halves, and the search looks
-//! candidates up among all places of the region.
+//! reliability order comes from another print, the Gold sequence is its recurrence on arrays that start
+//! with the bits of n_ID and n_RNTI, the decoder goes from position to position instead of calling
+//! itself on halves, and the search looks candidates up among all places of the region.
 //! It is written to be checked, not to be fast.
 
 pub mod construction;
@@ -27,6 +27,34 @@ pub const PAYLOAD_SIZES: std::ops::RangeInclusive<u64> = 12..=140;
 
 /// The coded lengths that are accepted: aggregation levels 1, 2, 4, 8 and 16.
 pub const CODED_LENGTHS: [u64; 5] = [108, 216, 432, 864, 1728];
+
+/// The numbers of a call.
+#[derive(Clone, Copy, Debug, PartialEq, Eq)]
+pub struct Numbers {
+    /// The payload size.
+    pub a: u64,
+    /// The coded length.
+    pub e: u64,
+    /// What the last 16 parity bits are masked with.
+    pub rnti: u16,
+    /// What the scrambling starts from: n_ID and n_RNTI.
+    pub n_id: u16,
+    pub n_rnti: u16,
+}
+
+impl Numbers {
+    /// Sizes, with 0 for all else.
+    pub fn sized(a: u64, e: u64) -> Self {
+        let (rnti, n_id, n_rnti) = (0, 0, 0);
+        Self {
+            a,
+            e,
+            rnti,
+            n_id,
+            n_rnti,
+        }
+    }
+}
 
 /// The refusal, 1 to 3, that the sizes alone call for.
 pub fn refused_sizes(a: u64, e: u64) -> Option<u8> {
@@ -98,25 +126,27 @@ fn refused_loopback(
 /// Codes `payload` into `out` and gives the number and the place.
 ///
 /// On every number but 0, `out` is untouched.
-pub fn encode(a: u64, e: u64, rnti: u16, n_id: u16, payload: &[u8], out: &mut [u8]) -> (u8, usize) {
+pub fn encode(numbers: &Numbers, payload: &[u8], out: &mut [u8]) -> (u8, usize) {
+    let Numbers { a, e, rnti, .. } = *numbers;
     if let Some(answer) = refused_coding(a, e, payload, out.len()) {
         return answer;
     }
     let layout = layout(a, e).expect("the sizes are accepted");
     let sent = rate_matching::matched(&layout, &code_word(a, e, rnti, payload));
-    out.copy_from_slice(&scrambling::scrambled(&sent, n_id));
+    out.copy_from_slice(&scrambling::scrambled(&sent, numbers.n_id, numbers.n_rnti));
     (0, 0)
 }
 
 /// Decodes `soft` into `out` and gives the number and the place.
 ///
 /// On every number but 0, `out` is untouched.
-pub fn decode(a: u64, e: u64, rnti: u16, n_id: u16, soft: &[i32], out: &mut [u8]) -> (u8, usize) {
+pub fn decode(numbers: &Numbers, soft: &[i32], out: &mut [u8]) -> (u8, usize) {
+    let Numbers { a, e, .. } = *numbers;
     if let Some(answer) = refused_decoding(a, e, soft, out.len()) {
         return answer;
     }
     let layout = layout(a, e).expect("the sizes are accepted");
-    let Some(payload) = decoding::payload(&layout, rnti, n_id, soft) else {
+    let Some(payload) = decoding::payload(&layout, numbers, soft) else {
         return (7, 0);
     };
     out.copy_from_slice(&payload);
@@ -128,20 +158,18 @@ pub fn decode(a: u64, e: u64, rnti: u16, n_id: u16, soft: &[i32], out: &mut [u8]
 ///
 /// On every number but 0, `out` is untouched.
 pub fn loopback(
-    a: u64,
-    e: u64,
-    rnti: u16,
-    n_id: u16,
+    numbers: &Numbers,
     payload: &[u8],
     strengths: &[i32],
     out: &mut [u8],
 ) -> (u8, usize) {
+    let Numbers { a, e, .. } = *numbers;
     if let Some(answer) = refused_loopback(a, e, payload, strengths, out.len()) {
         return answer;
     }
     let mut coded = vec![0; strengths.len()];
-    assert_eq!(encode(a, e, rnti, n_id, payload, &mut coded), (0, 0));
-    decode(a, e, rnti, n_id, &noiseless(&coded, strengths), out)
+    assert_eq!(encode(numbers, payload, &mut coded), (0, 0));
+    decode(numbers, &noiseless(&coded, strengths), out)
 }
 
 /// Writes what each of the positions 0..=511 is for into `out` and gives the number and the place.

@@ -1,7 +1,7 @@
 //! The search of a handset's candidates (document 02): every place where a message may lie is written
 //! down first, and a candidate is looked up among them.
 
-use crate::decode;
+use crate::{Numbers, decode};
 
 /// The soft values of a CCE.
 pub const CCE: usize = 108;
@@ -11,6 +11,8 @@ pub const CCES: usize = 64;
 pub const CANDIDATES: usize = 44;
 /// The bytes of the payload buffer.
 pub const BUFFER: usize = 140;
+/// The numbers of a candidate: first CCE, level, A, RNTI, n_RNTI.
+pub const NUMBERS: usize = 5;
 /// The aggregation levels.
 pub const LEVELS: [usize; 5] = [1, 2, 4, 8, 16];
 
@@ -31,38 +33,36 @@ pub fn places(cces: usize) -> Vec<Place> {
     LEVELS.into_iter().flat_map(of_level).collect()
 }
 
-/// The stretch of a candidate (first CCE, level, A, RNTI) and its payload; none if it does not decode.
+/// The stretch of a candidate and its payload; none if it does not decode.
 fn read<'a>(
     n_id: u16,
     region: &'a [i32],
     candidate: &[u32],
     places: &[Place],
 ) -> Option<(&'a [i32], Vec<u8>)> {
-    let [first_cce, level, a, rnti] = *candidate else {
-        panic!("four numbers to a candidate");
+    let [first_cce, level, a, rnti, n_rnti] = *candidate else {
+        panic!("five numbers to a candidate");
     };
     let here = |place: &&Place| {
         place.first_cce as u64 == u64::from(first_cce) && place.level as u64 == u64::from(level)
     };
     let Place { first_cce, level } = *places.iter().find(here)?;
-    let rnti = u16::try_from(rnti).ok()?;
     let stretch = &region[first_cce * CCE..(first_cce + level) * CCE];
+    let numbers = Numbers {
+        a: a.into(),
+        e: stretch.len() as u64,
+        rnti: u16::try_from(rnti).ok()?,
+        n_id,
+        n_rnti: u16::try_from(n_rnti).ok()?,
+    };
     // Above 140, A itself is refused.
     let mut payload = vec![0; BUFFER.min(a as usize)];
-    let (number, _) = decode(
-        a.into(),
-        stretch.len() as u64,
-        rnti,
-        n_id,
-        stretch,
-        &mut payload,
-    );
+    let (number, _) = decode(&numbers, stretch, &mut payload);
     (number == 0).then_some((stretch, payload))
 }
 
-/// Tries the candidates, four numbers each (first CCE, level, A, RNTI), one after the other. Gives the
-/// number, the candidate that decodes and its stretch of the region; its payload is at the front of
-/// `out`.
+/// Tries the candidates, five numbers each, one after the other. Gives the number, the candidate that
+/// decodes and its stretch of the region; its payload is at the front of `out`.
 ///
 /// On every number but 0 the candidate is 0, the stretch is empty and `out` is untouched.
 pub fn search<'a>(
@@ -72,7 +72,7 @@ pub fn search<'a>(
     out: &mut [u8],
 ) -> (u8, usize, &'a [i32]) {
     let (cces, values_left) = (region.len() / CCE, region.len() % CCE);
-    let (count, numbers_left) = (candidates.len() / 4, candidates.len() % 4);
+    let (count, numbers_left) = (candidates.len() / NUMBERS, candidates.len() % NUMBERS);
     if values_left > 0 || cces > CCES || numbers_left > 0 || count > CANDIDATES {
         return (4, 0, &[]);
     }
@@ -80,7 +80,7 @@ pub fn search<'a>(
         return (5, 0, &[]);
     }
     let places = places(cces);
-    for (i, candidate) in candidates.chunks(4).enumerate() {
+    for (i, candidate) in candidates.chunks(NUMBERS).enumerate() {
         if let Some((stretch, payload)) = read(n_id, region, candidate, &places) {
             out[..payload.len()].copy_from_slice(&payload);
             return (0, i, stretch);

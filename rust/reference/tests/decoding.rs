@@ -1,7 +1,9 @@
 //! The decoder: case T10 (docs/SOURCES.md) and rows worked by hand, the rule of halves, and messages read back.
 
 use reference::decoding::{CERTAIN, decided, descrambled, f, g, gathered};
-use reference::{CODED_LENGTHS, Kind, Layout, decode, encode, layout, loopback, noiseless};
+use reference::{
+    CODED_LENGTHS, Kind, Layout, Numbers, decode, encode, layout, loopback, noiseless,
+};
 use reference::{published, scrambling, transform};
 
 fn accepted(a: u64, e: u64) -> Layout {
@@ -120,8 +122,8 @@ fn position_by_position_is_half_by_half() {
 
 #[test]
 fn values_are_negated_where_the_sequence_is_1() {
-    let values = descrambled(&[5; 432], 1007);
-    for (value, c) in values.iter().zip(scrambling::gold(1007, 432)) {
+    let values = descrambled(&[5; 432], 1007, 0x4601);
+    for (value, c) in values.iter().zip(scrambling::gold(1007, 0x4601, 432)) {
         assert_eq!(*value, if c == 1 { -5 } else { 5 });
     }
 }
@@ -183,20 +185,29 @@ fn messages_are_read_back() {
             if a + 24 > e {
                 continue;
             }
-            for (seed, rnti, n_id) in [(1, 0, 0), (2, 0xFFFF, 0xFFFF), (3, 0x4601, 500)] {
+            let ends = [0, 0xFFFF].map(|number| [number; 3]);
+            let others = [[0x4601, 500, 0], [0x4601, 500, 0x8123]];
+            for ([rnti, n_id, n_rnti], seed) in ends.into_iter().chain(others).zip(1..) {
                 let payload = bits(a as usize, seed);
                 let strengths: Vec<i32> = mixed(e as usize, seed ^ a)
                     .map(|x| (1 + x % 127) as i32)
                     .collect();
                 let mut out = vec![9; a as usize];
-                let answer = loopback(a, e, rnti, n_id, &payload, &strengths, &mut out);
+                let numbers = Numbers {
+                    a,
+                    e,
+                    rnti,
+                    n_id,
+                    n_rnti,
+                };
+                let answer = loopback(&numbers, &payload, &strengths, &mut out);
                 assert_eq!(answer, (0, 0), "A = {a}, E = {e}");
                 assert_eq!(out, payload, "A = {a}, E = {e}");
                 read += 1;
             }
         }
     }
-    assert_eq!(read, 3 * (7 + 4 * 8));
+    assert_eq!(read, 4 * (7 + 4 * 8));
 }
 
 #[test]
@@ -204,9 +215,14 @@ fn hardware_word_is_read() {
     let code = published::hardware_layout();
     let word = published::hardware_code_word();
     let sent = reference::rate_matching::matched(&code, &word);
-    let soft = noiseless(&scrambling::scrambled(&sent, 7), &[1; 108]);
+    let numbers = Numbers {
+        n_id: 7,
+        n_rnti: 0x4601,
+        ..Numbers::sized(78, 108)
+    };
+    let soft = noiseless(&scrambling::scrambled(&sent, 7, 0x4601), &[1; 108]);
     let mut out = [9; 78];
-    assert_eq!(decode(78, 108, 0, 7, &soft, &mut out), (0, 0));
+    assert_eq!(decode(&numbers, &soft, &mut out), (0, 0));
     assert_eq!(
         Some(out.to_vec()),
         published::hardware_payload(),
@@ -214,11 +230,20 @@ fn hardware_word_is_read() {
     );
 }
 
+/// The numbers of the recorded message.
+const RECORDED: Numbers = Numbers {
+    a: 37,
+    e: 432,
+    rnti: published::SI_RNTI,
+    n_id: 1,
+    n_rnti: 0,
+};
+
 /// The recorded message, coded, as soft values of one strength.
 fn recorded() -> Vec<i32> {
     let payload = published::recorded_payload();
     let mut coded = vec![0; 432];
-    let answer = encode(37, 432, published::SI_RNTI, 1, &payload, &mut coded);
+    let answer = encode(&RECORDED, &payload, &mut coded);
     assert_eq!(answer, (0, 0));
     noiseless(&coded, &[60; 432])
 }
@@ -233,22 +258,27 @@ fn errors_are_corrected() {
         soft[k] = 0;
     }
     let mut out = [9; 37];
-    let answer = decode(37, 432, published::SI_RNTI, 1, &soft, &mut out);
-    assert_eq!(answer, (0, 0));
+    assert_eq!(decode(&RECORDED, &soft, &mut out), (0, 0));
     assert_eq!(out.to_vec(), published::recorded_payload());
 }
 
 #[test]
 fn other_numbers_do_not_match() {
     let soft = recorded();
-    for bit in 0..16 {
+    let answer = |numbers: Numbers| {
         let mut out = [9; 37];
-        let other = 1 << bit;
-        let rnti = published::SI_RNTI ^ other;
-        assert_eq!(decode(37, 432, rnti, 1, &soft, &mut out), (7, 0));
-        let n_id = 1 ^ other;
-        let answer = decode(37, 432, published::SI_RNTI, n_id, &soft, &mut out);
-        assert_eq!((answer, out), ((7, 0), [9; 37]), "n_ID {n_id}");
+        let answer = decode(&numbers, &soft, &mut out);
+        assert_eq!(answer.0 == 7, out == [9; 37]);
+        answer
+    };
+    for other in (0..16).map(|bit| 1 << bit) {
+        let (rnti, n_id, n_rnti) = (RECORDED.rnti ^ other, RECORDED.n_id ^ other, other);
+        assert_eq!(answer(Numbers { rnti, ..RECORDED }), (7, 0));
+        assert_eq!(answer(Numbers { n_id, ..RECORDED }), (7, 0), "n_ID {n_id}");
+        // The top bit of n_RNTI falls out.
+        let number = if other == 0x8000 { 0 } else { 7 };
+        let answer = answer(Numbers { n_rnti, ..RECORDED });
+        assert_eq!(answer, (number, 0), "n_RNTI {n_rnti}");
     }
 }
 
@@ -258,7 +288,7 @@ fn values_that_say_nothing_do_not_match() {
     for e in CODED_LENGTHS {
         let mut out = [9; 40];
         let soft = vec![0; e as usize];
-        assert_eq!(decode(40, e, 0, 0, &soft, &mut out), (7, 0));
+        assert_eq!(decode(&Numbers::sized(40, e), &soft, &mut out), (7, 0));
         assert_eq!(out, [9; 40]);
     }
 }
@@ -267,18 +297,24 @@ fn values_that_say_nothing_do_not_match() {
 fn refusals_of_decoding() {
     let mut soft = vec![0; 108];
     let mut out = [9; 12];
-    assert_eq!(decode(11, 107, 0, 0, &soft, &mut out), (1, 0));
-    assert_eq!(decode(12, 107, 0, 0, &soft, &mut out), (2, 0));
-    assert_eq!(decode(85, 108, 0, 0, &soft, &mut out), (3, 0));
-    assert_eq!(decode(12, 108, 0, 0, &soft[1..], &mut out[1..]), (4, 0));
+    assert_eq!(decode(&Numbers::sized(11, 107), &soft, &mut out), (1, 0));
+    assert_eq!(decode(&Numbers::sized(12, 107), &soft, &mut out), (2, 0));
+    assert_eq!(decode(&Numbers::sized(85, 108), &soft, &mut out), (3, 0));
+    assert_eq!(
+        decode(&Numbers::sized(12, 108), &soft[1..], &mut out[1..]),
+        (4, 0)
+    );
     soft[107] = 128;
-    assert_eq!(decode(12, 108, 0, 0, &soft, &mut out[1..]), (5, 0));
-    assert_eq!(decode(12, 108, 0, 0, &soft, &mut out), (6, 107));
+    assert_eq!(
+        decode(&Numbers::sized(12, 108), &soft, &mut out[1..]),
+        (5, 0)
+    );
+    assert_eq!(decode(&Numbers::sized(12, 108), &soft, &mut out), (6, 107));
     soft[3] = -128;
-    assert_eq!(decode(12, 108, 0, 0, &soft, &mut out), (6, 3));
+    assert_eq!(decode(&Numbers::sized(12, 108), &soft, &mut out), (6, 3));
     for bad in [i32::MIN, i32::MAX] {
         soft[0] = bad;
-        assert_eq!(decode(12, 108, 0, 0, &soft, &mut out), (6, 0));
+        assert_eq!(decode(&Numbers::sized(12, 108), &soft, &mut out), (6, 0));
     }
     assert_eq!(out, [9; 12]);
 }
@@ -289,7 +325,12 @@ fn refusals_of_loopback() {
     let mut strengths = vec![1; 108];
     let mut out = [9; 12];
     let mut call = |a, e, payload: &[u8], strengths: &[i32], skipped: usize| {
-        loopback(a, e, 0, 0, payload, strengths, &mut out[skipped..])
+        loopback(
+            &Numbers::sized(a, e),
+            payload,
+            strengths,
+            &mut out[skipped..],
+        )
     };
     assert_eq!(call(11, 107, &payload, &strengths, 0), (1, 0));
     assert_eq!(call(12, 107, &payload, &strengths, 0), (2, 0));

@@ -1,6 +1,6 @@
 //! The marked cases (docs/SOURCES.md) that concern coding: T1 to T9, T11 and T12.
 
-use reference::{Kind, Layout, encode, interleaver, layout, rate_matching, selected};
+use reference::{Kind, Layout, Numbers, encode, interleaver, layout, rate_matching, selected};
 use std::collections::BTreeSet;
 
 fn accepted(a: u64, e: u64) -> Layout {
@@ -18,7 +18,8 @@ fn unsent(layout: &Layout) -> usize {
 
 /// The number for sizes alone: lengths and bytes fit wherever they can.
 fn number(a: u64, e: u64) -> u8 {
-    encode(a, e, 0, 0, &vec![0; a as usize], &mut vec![0; e as usize]).0
+    let (payload, mut out) = (vec![0; a as usize], vec![0; e as usize]);
+    encode(&Numbers::sized(a, e), &payload, &mut out).0
 }
 
 #[test]
@@ -98,8 +99,8 @@ fn any_sizes_are_taken() {
     for a in extremes {
         for e in extremes {
             assert_eq!(layout(a, e), None);
-            assert_eq!(encode(a, e, 0, 0, &[], &mut []), (1, 0));
+            assert_eq!(encode(&Numbers::sized(a, e), &[], &mut []), (1, 0));
         }
-        assert_eq!(encode(40, a, 0, 0, &[0; 40], &mut []), (2, 0));
+        assert_eq!(encode(&Numbers::sized(40, a), &[0; 40], &mut []), (2, 0));
     }
 }

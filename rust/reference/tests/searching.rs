@@ -1,25 +1,30 @@
 //! The search of the second program: a message in CCEs 2 and 3 of a region of 4, and what is refused.
 
 use reference::searching::{BUFFER, CCE};
-use reference::{encode, noiseless, search};
+use reference::{Numbers, encode, noiseless, search};
 
 const N_ID: u16 = 500;
-/// First CCE, level, A, RNTI.
-const MESSAGE: [u32; 4] = [2, 2, 40, 0x4601];
+/// First CCE, level, A, RNTI, n_RNTI.
+const MESSAGE: [u32; 5] = [2, 2, 40, 0x4601, 0x1234];
 
 /// The region and the payload.
 fn region() -> (Vec<i32>, Vec<u8>) {
     let payload: Vec<u8> = (0..40).map(|i| u8::from(i % 3 == 0)).collect();
     let mut coded = vec![0; 216];
-    let answer = encode(40, 216, 0x4601, N_ID, &payload, &mut coded);
-    assert_eq!(answer, (0, 0));
+    let numbers = Numbers {
+        rnti: 0x4601,
+        n_id: N_ID,
+        n_rnti: 0x1234,
+        ..Numbers::sized(40, 216)
+    };
+    assert_eq!(encode(&numbers, &payload, &mut coded), (0, 0));
     let mut region = vec![1; 4 * CCE];
     region[2 * CCE..].copy_from_slice(&noiseless(&coded, &[20; 216]));
     (region, payload)
 }
 
 /// Number and candidate; on every number but 0 nothing else may be given.
-fn answer(region: &[i32], list: &[[u32; 4]], out_len: usize) -> (u8, usize) {
+fn answer(region: &[i32], list: &[[u32; 5]], out_len: usize) -> (u8, usize) {
     let mut out = vec![9; out_len];
     let (number, candidate, stretch) = search(N_ID, region, &list.concat(), &mut out);
     if number != 0 {
@@ -32,7 +37,13 @@ fn answer(region: &[i32], list: &[[u32; 4]], out_len: usize) -> (u8, usize) {
 #[test]
 fn message_is_found_with_its_stretch() {
     let (region, payload) = region();
-    let list = [[0, 4, 40, 0x4601], [0, 2, 40, 0x4601], MESSAGE, MESSAGE].concat();
+    let list = [
+        [0, 4, 40, 0x4601, 0x1234],
+        [0, 2, 40, 0x4601, 0x1234],
+        MESSAGE,
+        MESSAGE,
+    ]
+    .concat();
     let mut out = vec![9; BUFFER];
     let (number, candidate, stretch) = search(N_ID, &region, &list, &mut out);
     assert_eq!((number, candidate), (0, 2));
@@ -44,18 +55,24 @@ fn message_is_found_with_its_stretch() {
 fn candidates_that_do_not_decode() {
     let (region, _) = region();
     let others = [
-        [2, 0, 40, 0x4601],
-        [2, 3, 40, 0x4601],
-        [1, 2, 40, 0x4601],
-        [4, 2, 40, 0x4601],
-        [u32::MAX - 1, 2, 40, 0x4601],
-        [2, (1 << 30) + 2, 40, 0x4601],
-        [2, 2, 11, 0x4601],
-        [2, 2, 141, 0x4601],
-        [2, 2, u32::MAX, 0x4601],
-        [2, 1, 85, 0x4601],
-        [2, 2, 40, 0x4602],
-        [2, 2, 40, 0x1_4601],
+        [2, 0, 40, 0x4601, 0x1234],
+        [2, 3, 40, 0x4601, 0x1234],
+        [1, 2, 40, 0x4601, 0x1234],
+        [4, 2, 40, 0x4601, 0x1234],
+        [u32::MAX - 1, 2, 40, 0x4601, 0x1234],
+        [2, (1 << 30) + 2, 40, 0x4601, 0x1234],
+        [2, 2, 11, 0x4601, 0x1234],
+        [2, 2, 141, 0x4601, 0x1234],
+        [2, 2, u32::MAX, 0x4601, 0x1234],
+        [2, 1, 85, 0x4601, 0x1234],
+        [2, 2, 40, 0x4602, 0x1234],
+        [2, 2, 40, 0x1_4601, 0x1234],
+        [2, 2, 40, 0x4601, 0],
+        [2, 2, 40, 0x4601, 0x1235],
+        [2, 2, 40, 0x4601, 0x4601],
+        [2, 2, 40, 0x4601, 0x1_1234],
+        [2, 2, 40, 0x4601, 0x8000_1234],
+        [2, 2, 40, 0x1234, 0x4601],
     ];
     for other in others {
         assert_eq!(answer(&region, &[other], BUFFER), (8, 0), "{other:?}");
@@ -77,6 +94,8 @@ fn refusals() {
     assert_eq!(answer(&[], &[], BUFFER + 1), (5, 0));
     assert_eq!(answer(&[], &[MESSAGE; 44], BUFFER), (8, 0));
     assert_eq!(answer(&region, &[], BUFFER), (8, 0));
-    let cut = search(N_ID, &region, &MESSAGE[..3], &mut [0; BUFFER]);
-    assert_eq!((cut.0, cut.1), (4, 0));
+    for length in 1..MESSAGE.len() {
+        let cut = search(N_ID, &region, &MESSAGE[..length], &mut [0; BUFFER]);
+        assert_eq!((cut.0, cut.1), (4, 0));
+    }
 }

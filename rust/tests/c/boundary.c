@@ -40,7 +40,7 @@ enum known { NOTHING, GIVES_PAYLOAD, GIVES_MISMATCH };
 struct call {
     const struct kind *kind;
     uint64_t a, e;
-    uint16_t rnti, n_id;
+    uint16_t rnti, n_id, n_rnti;
     uint8_t payload[MOST];
     int32_t values[MOST]; /* soft values or strengths */
     uint8_t out[MOST];    /* what it holds before the call */
@@ -64,23 +64,24 @@ static uint64_t encode(const struct call *c, const uint8_t *payload,
                        const int32_t *values, uint8_t *out)
 {
     (void)values;
-    return spelt_encode(c->a, c->e, c->rnti, c->n_id, payload, c->payload_len,
-                        out, c->out_len);
+    return spelt_encode(c->a, c->e, c->rnti, c->n_id, c->n_rnti, payload,
+                        c->payload_len, out, c->out_len);
 }
 
 static uint64_t decode(const struct call *c, const uint8_t *payload,
                        const int32_t *values, uint8_t *out)
 {
     (void)payload;
-    return spelt_decode(c->a, c->e, c->rnti, c->n_id, values, c->values_len,
-                        out, c->out_len);
+    return spelt_decode(c->a, c->e, c->rnti, c->n_id, c->n_rnti, values,
+                        c->values_len, out, c->out_len);
 }
 
 static uint64_t loopback(const struct call *c, const uint8_t *payload,
                          const int32_t *values, uint8_t *out)
 {
-    return spelt_loopback(c->a, c->e, c->rnti, c->n_id, payload, c->payload_len,
-                          values, c->values_len, out, c->out_len);
+    return spelt_loopback(c->a, c->e, c->rnti, c->n_id, c->n_rnti, payload,
+                          c->payload_len, values, c->values_len, out,
+                          c->out_len);
 }
 
 static uint64_t describe(const struct call *c, const uint8_t *payload,
@@ -142,9 +143,10 @@ static void say(const struct call *c, const char *where, const char *why)
 {
     fprintf(stderr,
             "%s a=%" PRIu64 " e=%" PRIu64
-            " rnti=%u n_id=%u lengths %zu %zu %zu, %s: %s\n",
+            " rnti=%u n_id=%u n_rnti=%u lengths %zu %zu %zu, %s: %s\n",
             c->kind->name, c->a, c->e, (unsigned)c->rnti, (unsigned)c->n_id,
-            c->payload_len, c->values_len, c->out_len, where, why);
+            (unsigned)c->n_rnti, c->payload_len, c->values_len, c->out_len,
+            where, why);
 }
 
 static void fail(const struct call *c, const char *where, const char *why,
@@ -301,6 +303,7 @@ static void fill(struct call *c, const struct kind *kind, uint64_t a,
     c->e = e;
     c->rnti = (uint16_t)any();
     c->n_id = (uint16_t)any();
+    c->n_rnti = (uint16_t)any();
     c->payload_len = fitting(c, kind->payload);
     c->values_len = fitting(c, kind->values);
     c->out_len = fitting(c, kind->out);
@@ -318,8 +321,8 @@ static void fill(struct call *c, const struct kind *kind, uint64_t a,
 static void send(struct call *c)
 {
     static uint8_t coded[MOST];
-    uint64_t r = spelt_encode(c->a, c->e, c->rnti, c->n_id, c->payload,
-                              (size_t)c->a, coded, (size_t)c->e);
+    uint64_t r = spelt_encode(c->a, c->e, c->rnti, c->n_id, c->n_rnti,
+                              c->payload, (size_t)c->a, coded, (size_t)c->e);
     if (r != 0)
         fail(c, "coding of a message", "no refusal applies", r);
     for (size_t i = 0; i < c->values_len; i++) {
@@ -337,8 +340,14 @@ static void accepted(struct call *c, const struct kind *kind)
         if (kind->ask == decode) {
             send(c);
             make(c);
-            c->rnti ^= (uint16_t)(1 << below(16));
+            c->n_rnti ^= 0x8000; /* falls out */
+            make(c);
             c->known = GIVES_MISMATCH;
+            c->n_rnti ^= (uint16_t)(1 << below(15));
+            make(c);
+            send(c);
+            c->known = GIVES_MISMATCH;
+            c->rnti ^= (uint16_t)(1 << below(16));
             make(c);
         }
     }

@@ -75,12 +75,12 @@ static uint64_t expected(const struct search *s, uint8_t *out)
     for (size_t i = 0; i < s->count; i++) {
         const spelt_candidate *c = &s->list[i];
         if (!fits(c, s->region_len / SPELT_CCE) || c->rnti > 65535 ||
-            c->a > SPELT_MAX_PAYLOAD)
+            c->n_rnti > 65535 || c->a > SPELT_MAX_PAYLOAD)
             continue;
         size_t e = SPELT_CCE * (size_t)c->level;
         const int32_t *row = s->region + SPELT_CCE * (size_t)c->first_cce;
-        if (spelt_decode(c->a, e, (uint16_t)c->rnti, s->n_id, row, e, out,
-                         c->a) == 0)
+        if (spelt_decode(c->a, e, (uint16_t)c->rnti, s->n_id,
+                         (uint16_t)c->n_rnti, row, e, out, c->a) == 0)
             return SPELT_DONE + 256 * (uint64_t)i;
     }
     return SPELT_NO_CANDIDATE;
@@ -91,8 +91,9 @@ static void say(const struct search *s, const char *where, const char *why)
     fprintf(stderr, "search of %zu values with %zu candidates into %zu, %s: %s\n",
             s->region_len, s->count, s->out_len, where, why);
     for (size_t i = 0; i < s->count && i < MOST_LIST; i++)
-        fprintf(stderr, "  {%u, %u, %u, %u}\n", s->list[i].first_cce,
-                s->list[i].level, s->list[i].a, s->list[i].rnti);
+        fprintf(stderr, "  {%u, %u, %u, %u, %u}\n", s->list[i].first_cce,
+                s->list[i].level, s->list[i].a, s->list[i].rnti,
+                s->list[i].n_rnti);
 }
 
 static void fail(const struct search *s, const char *where, const char *why,
@@ -127,7 +128,7 @@ static uint64_t put_to_library(const struct search *s, enum how how,
     void *region = put(&region_room, how, s->region, s->region_len,
                        sizeof *s->region);
     /* Moved by one number, not by one candidate. */
-    void *list = put(&list_room, how, s->list, 4 * listed, sizeof(uint32_t));
+    void *list = put(&list_room, how, s->list, 5 * listed, sizeof(uint32_t));
     uint8_t *result = put(&out_room, how, s->out, s->out_len, 1);
     make_read_only(&region_room);
     make_read_only(&list_room);
@@ -187,6 +188,7 @@ static spelt_candidate candidate(size_t first_cce, uint32_t level)
     c.level = level;
     c.a = 12 + (uint32_t)below(level == 1 ? 73 : 129);
     c.rnti = (uint32_t)below(65536);
+    c.n_rnti = below(2) == 0 ? 0 : (uint32_t)below(65536);
     return c;
 }
 
@@ -208,8 +210,8 @@ static void send(struct search *s, const spelt_candidate *c)
     int32_t *row = s->region + SPELT_CCE * (size_t)c->first_cce;
     for (size_t i = 0; i < c->a; i++)
         payload[i] = (uint8_t)below(2);
-    uint64_t r = spelt_encode(c->a, e, (uint16_t)c->rnti, s->n_id, payload,
-                              c->a, coded, e);
+    uint64_t r = spelt_encode(c->a, e, (uint16_t)c->rnti, s->n_id,
+                              (uint16_t)c->n_rnti, payload, c->a, coded, e);
     if (r != 0)
         fail(s, "coding of a message", "no refusal applies", r);
     for (size_t i = 0; i < e; i++) {
@@ -264,9 +266,9 @@ static void lengths(struct search *s)
     static const size_t regions[] = {0,    1,    107,  108,  109,
                                      215,  6804, 6911, 6912, 6913,
                                      7019, 7020, 7128};
-    static const size_t counts[] = {0, 1, 43, 44, 45, 46, SIZE_MAX / 4,
-                                    SIZE_MAX / 4 + 1, SIZE_MAX / 4 + 2,
-                                    SIZE_MAX / 2 + 2, SIZE_MAX};
+    static const size_t counts[] = {0, 1, 43, 44, 45, 46, SIZE_MAX / 5,
+                                    SIZE_MAX / 5 + 1, SIZE_MAX / 5 + 44,
+                                    SIZE_MAX / 5 * 4 + 1, SIZE_MAX};
     static const size_t outs[] = {0, 1, 139, 140, 141, 280};
     fill(s, 64, 1);
     for (size_t i = 0; i < MOST_LIST; i++)
@@ -292,8 +294,10 @@ static uint32_t *number_of(spelt_candidate *c, size_t i)
         return &c->level;
     case 2:
         return &c->a;
-    default:
+    case 3:
         return &c->rnti;
+    default:
+        return &c->n_rnti;
     }
 }
 
@@ -303,7 +307,7 @@ static void impossible(struct search *s)
     static const uint32_t near[] = {0,  1,  3,  11,  12,  15,  16,        17,
                                     32, 48, 64, 128, 141, 255, UINT32_MAX};
     for (size_t k = 0; k < LEVELS; k++)
-        for (size_t field = 0; field < 4; field++) {
+        for (size_t field = 0; field < 5; field++) {
             fill(s, 32, 2);
             s->list[1] = candidate(16, levels[k]);
             send(s, &s->list[1]);
@@ -358,7 +362,7 @@ static void random_search(struct search *s)
         s->region[below(s->region_len)] = (int32_t)(any() >> 32);
     for (size_t i = 0; i < s->count; i++)
         if (below(8) == 0)
-            *number_of(&s->list[i], below(4)) =
+            *number_of(&s->list[i], below(5)) =
                 below(2) == 0 ? (uint32_t)any() : (uint32_t)below(70);
     if (below(12) == 0)
         s->region_len = below(MOST_VALUES + 1);

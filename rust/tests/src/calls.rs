@@ -23,6 +23,24 @@ pub fn answer(given: Result<(), Refusal>) -> (u8, usize) {
     }
 }
 
+/// The numbers of a call, as the reference takes them.
+pub fn second(numbers: &Numbers) -> reference::Numbers {
+    let Numbers {
+        a,
+        e,
+        rnti,
+        n_id,
+        n_rnti,
+    } = *numbers;
+    reference::Numbers {
+        a,
+        e,
+        rnti,
+        n_id,
+        n_rnti,
+    }
+}
+
 /// A call, with what the output buffer holds before it.
 pub trait Call: Debug {
     fn out(&self) -> &[u8];
@@ -106,8 +124,7 @@ impl Call for Encode {
     }
 
     fn ask_reference(&self, out: &mut [u8]) -> (u8, usize) {
-        let Numbers { a, e, rnti, n_id } = self.numbers;
-        reference::encode(a, e, rnti, n_id, &self.payload, out)
+        reference::encode(&second(&self.numbers), &self.payload, out)
     }
 }
 
@@ -137,8 +154,7 @@ impl Call for Decode {
     }
 
     fn ask_reference(&self, out: &mut [u8]) -> (u8, usize) {
-        let Numbers { a, e, rnti, n_id } = self.numbers;
-        reference::decode(a, e, rnti, n_id, &self.soft, out)
+        reference::decode(&second(&self.numbers), &self.soft, out)
     }
 }
 
@@ -184,8 +200,8 @@ impl Call for Loopback {
     }
 
     fn ask_reference(&self, out: &mut [u8]) -> (u8, usize) {
-        let Numbers { a, e, rnti, n_id } = self.numbers;
-        reference::loopback(a, e, rnti, n_id, &self.payload, &self.strengths, out)
+        let numbers = second(&self.numbers);
+        reference::loopback(&numbers, &self.payload, &self.strengths, out)
     }
 }
 

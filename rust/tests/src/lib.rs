@@ -25,6 +25,18 @@ pub const SOME_PAIRS: [(u64, u64); 6] = [
     (140, 1728),
 ];
 
+/// The numbers of a pair with each of RNTI, n_ID and n_RNTI the least or the greatest.
+pub fn extreme_numbers(a: u64, e: u64) -> impl Iterator<Item = Numbers> {
+    let end = |set: u16, i: u16| if set >> i & 1 == 1 { 0xFFFF } else { 0 };
+    (0..8).map(move |set| Numbers {
+        a,
+        e,
+        rnti: end(set, 0),
+        n_id: end(set, 1),
+        n_rnti: end(set, 2),
+    })
+}
+
 /// All accepted pairs (A, E).
 pub fn accepted_pairs() -> Vec<(u64, u64)> {
     reference::CODED_LENGTHS
@@ -38,7 +50,7 @@ pub fn accepted_pairs() -> Vec<(u64, u64)> {
 pub fn sent_bits(numbers: Numbers, payload: &[u8], random: &mut Random) -> Vec<u8> {
     let outcome = Encode::fitting(numbers, payload.to_vec(), random).library();
     assert_eq!((outcome.number, outcome.place), (0, 0), "{numbers:?}");
-    reference::scrambling::scrambled(&outcome.out, numbers.n_id)
+    reference::scrambling::scrambled(&outcome.out, numbers.n_id, numbers.n_rnti)
 }
 
 /// A number from the environment, or what it is otherwise.

@@ -77,7 +77,7 @@ fn frozen_word(numbers: &Numbers, random: &mut Random) -> Vec<i32> {
     }
     let sent = rate_matching::matched(&code, &transform::transform(&u));
     let strengths = row(numbers, || MOST - random.pick(&[0, 0, 0, 0, 0, 0, 1, 2]));
-    let signs = scrambling::scrambled(&sent, numbers.n_id);
+    let signs = scrambling::scrambled(&sent, numbers.n_id, numbers.n_rnti);
     let values = strengths.iter().zip(signs);
     values
         .map(|(s, bit)| s * (1 - 2 * i32::from(bit)))
@@ -111,7 +111,8 @@ pub struct Turned {
 /// message is found that has all these.
 pub fn turned(numbers: Numbers, soft: &[i32], random: &mut Random) -> Option<Turned> {
     let code = layout(numbers.a, numbers.e).expect("an accepted pair");
-    let values = gathered(&code, &descrambled(soft, numbers.n_id));
+    let values = descrambled(soft, numbers.n_id, numbers.n_rnti);
+    let values = gathered(&code, &values);
     let Decided { u, on } = decided(&code.chosen, values);
     let mut must_be_0 = vec![false; code.k];
     for (&position, source) in code.chosen.iter().zip(interleaver::order(code.k)) {

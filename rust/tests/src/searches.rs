@@ -5,7 +5,7 @@ use crate::trials::coded;
 use crate::{Call, Random};
 use channel::{MOST, received};
 use reference::noiseless;
-use reference::searching::{BUFFER, CCE, Place};
+use reference::searching::{BUFFER, CCE, NUMBERS, Place};
 use speltfeather::{Candidate, Numbers, decode};
 use std::ops::Range;
 use std::ptr;
@@ -34,13 +34,26 @@ pub fn numbers_of(candidate: &Candidate, n_id: u16) -> Numbers {
         e: CCE as u64 * u64::from(candidate.level),
         rnti: candidate.rnti as u16,
         n_id,
+        n_rnti: candidate.n_rnti as u16,
     }
 }
 
-/// A list as numbers, four for each candidate.
+/// A list as numbers, five for each candidate.
 pub fn flat(list: &[Candidate]) -> Vec<u32> {
-    let numbers = |c: &Candidate| [c.first_cce, c.level, c.a, c.rnti];
+    let numbers = |c: &Candidate| [c.first_cce, c.level, c.a, c.rnti, c.n_rnti];
     list.iter().flat_map(numbers).collect()
+}
+
+/// The candidate of five numbers.
+pub fn candidate(numbers: [u32; NUMBERS]) -> Candidate {
+    let [first_cce, level, a, rnti, n_rnti] = numbers;
+    Candidate {
+        first_cce,
+        level,
+        a,
+        rnti,
+        n_rnti,
+    }
 }
 
 /// Where the values of a candidate stand in its region.
@@ -120,7 +133,7 @@ impl Search {
             region: region.values.clone(),
             region_len: region.values.len(),
             list: flat(list),
-            list_len: 4 * list.len(),
+            list_len: NUMBERS * list.len(),
             out: random.bytes(BUFFER),
         }
     }
@@ -135,8 +148,9 @@ impl Search {
 
     /// The candidates that the list has whole.
     fn candidates(&self) -> Vec<Candidate> {
-        let whole = self.list().chunks_exact(4);
-        whole.map(|n| at(n[0], n[1], n[2], n[3])).collect()
+        let whole = self.list().chunks_exact(NUMBERS);
+        let five = |numbers: &[u32]| numbers.try_into().expect("five numbers");
+        whole.map(|numbers| candidate(five(numbers))).collect()
     }
 
     /// Asserts that both name this candidate and give this payload, and that the rest of the buffer
@@ -194,7 +208,7 @@ impl Call for Search {
             )
         };
         let answer = ((answer & 255) as u8, (answer >> 8) as usize);
-        if list.len() % 4 == 0 {
+        if list.len() % NUMBERS == 0 {
             let mut other = self.out.clone();
             assert_eq!(answer, self.ask_wrapper(&mut other), "{self:?}");
             assert_eq!(out, other, "{self:?}");
@@ -210,22 +224,21 @@ impl Call for Search {
     }
 }
 
+/// The n_RNTI of candidates for which none is said: unlike their RNTIs, and with its top bit.
+pub const N_RNTI: u32 = 0xB5C2;
+
 /// A candidate.
 pub fn at(first_cce: u32, level: u32, a: u32, rnti: u32) -> Candidate {
-    Candidate {
-        first_cce,
-        level,
-        a,
-        rnti,
-    }
+    candidate([first_cce, level, a, rnti, N_RNTI])
 }
 
-/// A candidate at a place, with any size that it has room for and any RNTI.
+/// A candidate at a place, with any size that it has room for, any RNTI and any n_RNTI.
 pub fn any_at(place: Place, random: &mut Random) -> Candidate {
     let most = if place.level == 1 { 84 } else { 140 };
     let a = random.between(12, most) as u32;
-    let rnti = u32::from(random.u16());
-    at(place.first_cce as u32, place.level as u32, a, rnti)
+    let [first_cce, level] = [place.first_cce, place.level].map(|n| n as u32);
+    let [rnti, n_rnti] = [(); 2].map(|()| random.u16().into());
+    candidate([first_cce, level, a, rnti, n_rnti])
 }
 
 /// A candidate of this level at CCE 0.

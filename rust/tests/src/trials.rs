@@ -90,20 +90,34 @@ pub fn contradicted_row(a: u64, e: u64, random: &mut Random, tally: &mut Tally) 
     expect_payload(numbers, soft, &payload, random, tally);
 }
 
-/// A message, read with another RNTI, identity or payload size and then with its own numbers.
+/// A message, read with another RNTI, n_ID, n_RNTI or payload size and then with its own numbers.
 pub fn other_numbers(a: u64, e: u64, random: &mut Random, tally: &mut Tally) {
     let numbers = random.numbers(a, e);
     let payload = random.bits(a as usize);
     let soft = noiseless(&coded(&numbers, &payload), &strengths(e as usize, random));
     let bit = 1 << random.below(16);
-    let Numbers { rnti, n_id, .. } = numbers;
-    let with = |a, rnti, n_id| Numbers { a, e, rnti, n_id };
+    // The top bit of n_RNTI falls out.
+    let low_bit = 1 << random.below(15);
+    let Numbers {
+        rnti, n_id, n_rnti, ..
+    } = numbers;
+    let with = |rnti, n_id, n_rnti| Numbers {
+        rnti,
+        n_id,
+        n_rnti,
+        ..numbers
+    };
     let others = [
-        with(a, rnti ^ bit, n_id),
-        with(a, rnti.rotate_left(8) ^ 1, n_id),
-        with(a, rnti, n_id ^ bit),
-        with(a, rnti, !n_id),
-        with(if a == 12 { 13 } else { a - 1 }, rnti, n_id),
+        with(rnti ^ bit, n_id, n_rnti),
+        with(rnti.rotate_left(8) ^ 1, n_id, n_rnti),
+        with(rnti, n_id ^ bit, n_rnti),
+        with(rnti, !n_id, n_rnti),
+        with(rnti, n_id, n_rnti ^ low_bit),
+        with(rnti, n_id, !n_rnti),
+        Numbers {
+            a: if a == 12 { 13 } else { a - 1 },
+            ..numbers
+        },
     ];
     for other in others {
         let call = Decode::fitting(other, soft.clone(), random);

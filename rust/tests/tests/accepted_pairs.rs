@@ -1,7 +1,6 @@
 //! Every accepted pair (A, E), with random and extreme payloads and numbers.
 
-use conformance::{Call, Encode, Random, SOME_PAIRS, accepted_pairs};
-use speltfeather::Numbers;
+use conformance::{Call, Encode, Random, SOME_PAIRS, accepted_pairs, extreme_numbers};
 
 const SEED: u64 = 0x38212;
 const RANDOM_CALLS: usize = 8;
@@ -10,19 +9,14 @@ const RANDOM_CALLS: usize = 8;
 fn calls(a: u64, e: u64, random: &mut Random) -> Vec<Encode> {
     let mut calls = Vec::new();
     for bit in [0, 1] {
-        for (rnti, n_id) in [(0, 0), (0, 0xFFFF), (0xFFFF, 0), (0xFFFF, 0xFFFF)] {
-            let numbers = Numbers { a, e, rnti, n_id };
+        for numbers in extreme_numbers(a, e) {
             calls.push(Encode::fitting(numbers, vec![bit; a as usize], random));
         }
     }
     for _ in 0..RANDOM_CALLS {
-        let (rnti, n_id) = (random.u16(), random.u16());
+        let numbers = random.numbers(a, e);
         let payload = random.bits(a as usize);
-        calls.push(Encode::fitting(
-            Numbers { a, e, rnti, n_id },
-            payload,
-            random,
-        ));
+        calls.push(Encode::fitting(numbers, payload, random));
     }
     calls
 }
@@ -41,7 +35,7 @@ fn library_gives_what_the_reference_gives() {
             compared += 1;
         }
     }
-    assert_eq!(compared, 589 * (8 + RANDOM_CALLS));
+    assert_eq!(compared, 589 * (16 + RANDOM_CALLS));
 }
 
 #[test]
@@ -53,8 +47,7 @@ fn each_payload_bit_counts() {
         for place in 0..a as usize {
             let mut payload = vec![0; a as usize];
             payload[place] = 1;
-            let (rnti, n_id) = (random.u16(), random.u16());
-            let call = Encode::fitting(Numbers { a, e, rnti, n_id }, payload, &mut random);
+            let call = Encode::fitting(random.numbers(a, e), payload, &mut random);
             let outcome = call.library();
             assert_eq!(outcome.number, 0, "seed {SEED:#x}, {call:?}");
             assert_eq!(outcome, call.reference(), "seed {SEED:#x}, {call:?}");

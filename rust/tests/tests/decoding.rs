@@ -111,7 +111,7 @@ fn messages_for_others_do_not_match() {
     const MESSAGES: usize = 2;
     let tally = for_every_pair(MESSAGES, SEED + 5, trials::other_numbers);
     assert_eq!(tally.accepted, PAIRS * MESSAGES);
-    assert_eq!(tally.mismatched, 5 * PAIRS * MESSAGES);
+    assert_eq!(tally.mismatched, 7 * PAIRS * MESSAGES);
 }
 
 #[test]
@@ -124,7 +124,8 @@ fn every_bit_of_payload_and_parity_counts() {
             let mut row = parity::attached(&random.bits(a as usize), numbers.rnti);
             row[wrong] ^= 1;
             let d = transform::transform(&reference::carrying(&code, &row));
-            let sent = scrambling::scrambled(&rate_matching::matched(&code, &d), numbers.n_id);
+            let sent = rate_matching::matched(&code, &d);
+            let sent = scrambling::scrambled(&sent, numbers.n_id, numbers.n_rnti);
             let soft = reference::noiseless(&sent, &strengths(e as usize, &mut random));
             Decode::fitting(numbers, soft, &mut random).expect(7, 0);
         }
@@ -136,14 +137,68 @@ fn every_bit_of_rnti_and_identity_counts() {
     let mut random = Random::new(SEED);
     for (a, e) in SOME_PAIRS {
         let numbers = random.numbers(a, e);
-        let payload = random.bits(a as usize);
-        let coded = trials::coded(&numbers, &payload);
-        let soft = reference::noiseless(&coded, &vec![1; e as usize]);
+        let soft = message(&numbers, &random.bits(a as usize));
         for bit in (0..16).map(|i| 1 << i) {
             let (rnti, n_id) = (numbers.rnti ^ bit, numbers.n_id ^ bit);
             for other in [Numbers { rnti, ..numbers }, Numbers { n_id, ..numbers }] {
                 Decode::fitting(other, soft.clone(), &mut random).expect(7, 0);
             }
+        }
+    }
+}
+
+/// The soft values of a message, as weak as they can be.
+fn message(numbers: &Numbers, payload: &[u8]) -> Vec<i32> {
+    let coded = trials::coded(numbers, payload);
+    reference::noiseless(&coded, &vec![1; coded.len()])
+}
+
+#[test]
+fn every_bit_of_n_rnti_counts_but_the_top_one() {
+    let mut random = Random::new(SEED);
+    let mut tally = Tally::default();
+    for (a, e) in SOME_PAIRS {
+        for n_rnti in [0, 0x4601, 0x7FFF, 0x8000, 0xB5C2, 0xFFFF] {
+            let numbers = Numbers {
+                n_rnti,
+                ..random.numbers(a, e)
+            };
+            let payload = random.bits(a as usize);
+            let soft = message(&numbers, &payload);
+            for bit in (0..15).map(|i| 1 << i) {
+                let n_rnti = n_rnti ^ bit;
+                let other = Numbers { n_rnti, ..numbers };
+                Decode::fitting(other, soft.clone(), &mut random).expect(7, 0);
+            }
+            for n_rnti in [n_rnti, n_rnti ^ 0x8000] {
+                let alike = Numbers { n_rnti, ..numbers };
+                trials::expect_payload(alike, soft.clone(), &payload, &mut random, &mut tally);
+            }
+        }
+    }
+    assert_eq!(tally, all_accepted(2 * 6 * SOME_PAIRS.len()));
+}
+
+#[test]
+fn rnti_and_n_rnti_are_not_taken_for_each_other() {
+    let mut random = Random::new(SEED + 6);
+    for (a, e) in SOME_PAIRS {
+        for (rnti, n_rnti) in [(0x4601, 0), (0, 0x4601), (0x4601, 0x1234), (0xFFFF, 0x4601)] {
+            let numbers = |rnti, n_rnti| Numbers {
+                a,
+                e,
+                rnti,
+                n_id: 500,
+                n_rnti,
+            };
+            let soft = message(&numbers(rnti, n_rnti), &random.bits(a as usize));
+            let others = [(rnti, rnti), (n_rnti, n_rnti), (n_rnti, rnti)];
+            for (rnti, n_rnti) in others {
+                let other = numbers(rnti, n_rnti);
+                Decode::fitting(other, soft.clone(), &mut random).expect(7, 0);
+            }
+            let own = numbers(rnti, n_rnti);
+            Decode::fitting(own, soft, &mut random).expect(0, 0);
         }
     }
 }
@@ -156,8 +211,10 @@ fn values_that_say_nothing_decide_0() {
     for (a, e) in accepted_pairs() {
         let rnti = parity::parity(&vec![0; a as usize]) as u16;
         for rnti in [rnti, 0, random.u16()] {
-            let n_id = random.u16();
-            let numbers = Numbers { a, e, rnti, n_id };
+            let numbers = Numbers {
+                rnti,
+                ..random.numbers(a, e)
+            };
             let soft = vec![0; e as usize];
             tally.count(&Decode::fitting(numbers, soft, &mut random).compared());
         }

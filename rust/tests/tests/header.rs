@@ -4,7 +4,8 @@ use conformance::built::{archive, include, is_found, program_of_readme, root, so
 use conformance::rows::strengths;
 use conformance::searches::any_at;
 use conformance::{Call, Outcome, Random, Region, Search};
-use reference::searching::places;
+use reference::Numbers;
+use reference::searching::{NUMBERS, places};
 use std::fs;
 use std::io::Write;
 use std::path::{Path, PathBuf};
@@ -48,19 +49,31 @@ fn list<T: ToString>(entries: &[T]) -> String {
         .collect()
 }
 
+/// The numbers of the calls: no two of RNTI, n_ID and n_RNTI can be taken for each other.
+fn numbers(a: u64, e: u64) -> Numbers {
+    Numbers {
+        a,
+        e,
+        rnti: 0x4601,
+        n_id: 0xFFFF,
+        n_rnti: 0xB5C2,
+    }
+}
+
 /// A call of the program must print what the reference gives for it.
 fn assert_call(
     program: &Path,
     name: &str,
     (a, e, out_len): (u64, u64, usize),
     lists: &[String],
-    reference: impl FnOnce(u16, u16, &mut [u8]) -> (u8, usize),
+    reference: impl FnOnce(&Numbers, &mut [u8]) -> (u8, usize),
 ) {
-    let (rnti, n_id) = (0x4601, 0xFFFF);
+    let numbers = numbers(a, e);
     let mut out = vec![9; out_len];
-    let (number, place) = reference(rnti, n_id, &mut out);
-    let numbers = [a, e, rnti.into(), n_id.into(), out_len as u64].map(|x| x.to_string());
-    let arguments = [&[name.to_string()], &numbers[..], lists].concat();
+    let (number, place) = reference(&numbers, &mut out);
+    let short = [numbers.rnti, numbers.n_id, numbers.n_rnti].map(|x| x.to_string());
+    let [a, e, out_len] = [a, e, out_len as u64].map(|x| x.to_string());
+    let arguments = [&[name.to_string(), a, e], &short[..], &[out_len], lists].concat();
     let digits: String = out.iter().map(u8::to_string).collect();
     assert_eq!(
         printed(program, &arguments),
@@ -76,7 +89,7 @@ fn assert_encode(program: &Path, a: u64, e: u64, payload: &[u8], out_len: usize)
         "encode",
         (a, e, out_len),
         &lists,
-        |rnti, n_id, out| reference::encode(a, e, rnti, n_id, payload, out),
+        |numbers, out| reference::encode(numbers, payload, out),
     );
 }
 
@@ -87,7 +100,7 @@ fn assert_decode(program: &Path, a: u64, e: u64, soft: &[i32], out_len: usize) {
         "decode",
         (a, e, out_len),
         &lists,
-        |rnti, n_id, out| reference::decode(a, e, rnti, n_id, soft, out),
+        |numbers, out| reference::decode(numbers, soft, out),
     );
 }
 
@@ -99,12 +112,12 @@ fn assert_loopback(program: &Path, a: u64, e: u64, inputs: (&[u8], &[i32]), out_
         "loopback",
         (a, e, out_len),
         &lists,
-        |rnti, n_id, out| reference::loopback(a, e, rnti, n_id, payload, strengths, out),
+        |numbers, out| reference::loopback(numbers, payload, strengths, out),
     );
 }
 
 fn assert_describe(program: &Path, a: u64, e: u64, out_len: usize) {
-    assert_call(program, "describe", (a, e, out_len), &[], |_, _, out| {
+    assert_call(program, "describe", (a, e, out_len), &[], |_, out| {
         reference::describe(a, e, out)
     });
 }
@@ -118,25 +131,26 @@ fn assert_search(program: &Path, search: &Search) {
     let digits: String = out.iter().map(u8::to_string).collect();
     let expected = format!("{number} {place} {digits}\n");
     let ask = |name: &str, count: &[String]| {
-        let unused = ["0", "0", "0"].map(String::from);
-        let lengths = [search.n_id.to_string(), out.len().to_string()];
+        // A, E, RNTI and n_RNTI are not used.
+        let (n_id, out_len) = (search.n_id.to_string(), out.len().to_string());
+        let numbers_of_call = [name, "0", "0", "0", &n_id, "0", &out_len].map(String::from);
         let inputs = [region.clone(), list(numbers)];
-        let name = [name.to_string()];
-        let arguments = [&name[..], &unused, &lengths, &inputs, count].concat();
+        let arguments = [&numbers_of_call[..], &inputs, count].concat();
         assert_eq!(printed(program, &arguments), expected, "{arguments:?}");
     };
     ask("list", &[]);
-    if numbers.len() % 4 == 0 {
-        ask("search", &[(numbers.len() / 4).to_string()]);
+    if numbers.len() % NUMBERS == 0 {
+        ask("search", &[(numbers.len() / NUMBERS).to_string()]);
     }
-    if numbers.len() / 4 == 45 {
-        // Counts whose fourfold wraps to 0, 4, 8 and 44 candidates, and the greatest.
-        let quarter = usize::MAX / 4 + 1;
+    if numbers.len() == 45 * NUMBERS {
+        // Counts whose fivefold is just below wrapping or wraps to 4, 9, 219 and 1, and the greatest.
+        let fifth = usize::MAX / 5;
         for count in [
-            quarter,
-            quarter + 1,
-            quarter + 2,
-            2 * quarter + 44,
+            fifth,
+            fifth + 1,
+            fifth + 2,
+            fifth + 44,
+            4 * fifth + 1,
             usize::MAX,
         ] {
             ask("search", &[count.to_string()]);
@@ -176,11 +190,11 @@ fn assert_wrong_counts(program: &Path, random: &mut Random) {
     let mut search = Search::of(&region, &[candidate; 46], random);
     search.out.fill(9);
     for count in [0, 1, 44, 45, 46] {
-        search.list_len = 4 * count;
+        search.list_len = NUMBERS * count;
         assert_search(program, &search);
     }
-    search.list_len = 4;
-    for field in 0..4 {
+    search.list_len = NUMBERS;
+    for field in 0..NUMBERS {
         for far in [1 << 16, 1 << 30, 1 << 31] {
             let mut other = search.clone();
             other.list[field] += far;
@@ -208,7 +222,7 @@ fn assert_decoding(program: &Path, random: &mut Random) {
     for (a, e) in PAIRS {
         let mut coded = vec![0; e as usize];
         let payload = random.bits(a as usize);
-        let answer = reference::encode(a, e, 0x4601, 0xFFFF, &payload, &mut coded);
+        let answer = reference::encode(&numbers(a, e), &payload, &mut coded);
         assert_eq!(answer, (0, 0));
         let soft = reference::noiseless(&coded, &strengths(e as usize, random));
         assert_decode(program, a, e, &soft, a as usize);
@@ -260,6 +274,8 @@ fn assert_language(compiler: &str, language: &[&str], name: &str) {
     assert_eq!(numbers, "0 1 2 3 4 5 6 7 8\n");
     let limits = printed(&program, &["limits".into()]);
     assert_eq!(limits, "108 64 44 140\n");
+    let candidate = printed(&program, &["candidate".into()]);
+    assert_eq!(candidate, "20: 0 4 8 12 16\n");
     let roles = printed(&program, &["roles".into()]);
     assert_eq!(roles, "0 1 2 3 4 512\n");
     let version = env!("CARGO_PKG_VERSION");

@@ -2,8 +2,7 @@
 
 use conformance::faults::{self, FAR, Faults, length};
 use conformance::trials::{self, Tally};
-use conformance::{Call, Loopback, Random, SOME_PAIRS, accepted_pairs, rows};
-use speltfeather::Numbers;
+use conformance::{Call, Loopback, Random, SOME_PAIRS, accepted_pairs, extreme_numbers, rows};
 
 const SEED: u64 = 0x1007;
 
@@ -44,8 +43,7 @@ fn extreme_payloads_numbers_and_strengths() {
     let mut tally = Tally::default();
     for (a, e) in SOME_PAIRS {
         for (bit, strength) in [(0, 1), (0, 127), (1, 1), (1, 127)] {
-            for (rnti, n_id) in [(0, 0), (0, 0xFFFF), (0xFFFF, 0), (0xFFFF, 0xFFFF)] {
-                let numbers = Numbers { a, e, rnti, n_id };
+            for numbers in extreme_numbers(a, e) {
                 let payload = vec![bit; a as usize];
                 let strengths = vec![strength; e as usize];
                 let call = Loopback::fitting(numbers, payload, strengths, &mut random);
@@ -55,7 +53,22 @@ fn extreme_payloads_numbers_and_strengths() {
             }
         }
     }
-    assert_eq!((tally.accepted, tally.mismatched), (6 * 16, 0));
+    assert_eq!((tally.accepted, tally.mismatched), (6 * 32, 0));
+}
+
+#[test]
+fn every_n_rnti_gives_the_payload() {
+    let mut random = Random::new(SEED);
+    for n_rnti in 0..=0xFFFF {
+        let mut call = fitting(12, 108, &mut random);
+        call.numbers.n_rnti = n_rnti;
+        let outcome = call.library();
+        assert_eq!(
+            (outcome.number, &outcome.out),
+            (0, &call.payload),
+            "{call:?}"
+        );
+    }
 }
 
 /// A call whose lengths fit the low bits of its sizes, so that only the sizes can be at fault.

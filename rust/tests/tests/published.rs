@@ -1,7 +1,7 @@
 //! The library's output against published words (sources 001 and 002 of docs/SOURCES.md), and against
 //! the cases of document 01 there that are not marked.
 
-use conformance::searches::at;
+use conformance::searches::{N_RNTI, at};
 use conformance::{Call, Decode, Encode, Random, Region, Search, sent_bits};
 use reference::{Kind, Layout, construction, layout, noiseless, published, rate_matching};
 use reference::{scrambling, selected};
@@ -9,7 +9,15 @@ use speltfeather::Numbers;
 
 const RNTI: u16 = 0x4601;
 const SEED: u64 = 0x732;
-const IDENTITIES: [u16; 5] = [0, 1, 0x1234, 0x8000, 0xFFFF];
+/// What the scrambling starts from, n_ID and n_RNTI: the words do not depend on it.
+const STARTS: [(u16, u16); 6] = [
+    (0, 0),
+    (1, 0),
+    (0x1234, RNTI),
+    (0x8000, 1),
+    (0, 0x8000),
+    (0xFFFF, 0xFFFF),
+];
 
 /// The code word that sent bits came from; what was not sent is taken from `unsent`.
 fn code_word_of(layout: &Layout, sent: &[u8], unsent: &[u8]) -> Vec<u8> {
@@ -21,12 +29,24 @@ fn code_word_of(layout: &Layout, sent: &[u8], unsent: &[u8]) -> Vec<u8> {
 }
 
 /// The sizes of the hardware's word, which was coded for RNTI 0.
-fn hardware_numbers(n_id: u16) -> Numbers {
+fn hardware_numbers((n_id, n_rnti): (u16, u16)) -> Numbers {
     Numbers {
         a: 78,
         e: 108,
         rnti: 0,
         n_id,
+        n_rnti,
+    }
+}
+
+/// The numbers of the recorded message.
+fn recorded_numbers((n_id, n_rnti): (u16, u16)) -> Numbers {
+    Numbers {
+        a: 37,
+        e: 432,
+        rnti: published::SI_RNTI,
+        n_id,
+        n_rnti,
     }
 }
 
@@ -36,12 +56,13 @@ fn hardware_word_is_sent() {
     let code = published::hardware_layout();
     let word = published::hardware_code_word();
     let payload = published::hardware_payload().expect("a code word");
-    for n_id in IDENTITIES {
-        let numbers = hardware_numbers(n_id);
+    for start in STARTS {
+        let numbers = hardware_numbers(start);
         let sent = sent_bits(numbers, &payload, &mut random);
-        assert_eq!(sent, rate_matching::matched(&code, &word), "n_ID {n_id}");
+        assert_eq!(sent, rate_matching::matched(&code, &word), "{numbers:?}");
         // Shortened code bits are 0, so the sent ones give the whole word.
-        assert_eq!(code_word_of(&code, &sent, &[0; 128]), word, "n_ID {n_id}");
+        let whole = code_word_of(&code, &sent, &[0; 128]);
+        assert_eq!(whole, word, "{numbers:?}");
     }
 }
 
@@ -52,16 +73,13 @@ fn hardware_word_is_read() {
         &published::hardware_layout(),
         &published::hardware_code_word(),
     );
-    for n_id in IDENTITIES {
-        let numbers = hardware_numbers(n_id);
-        let soft = noiseless(&scrambling::scrambled(&sent, n_id), &[1; 108]);
+    for (n_id, n_rnti) in STARTS {
+        let numbers = hardware_numbers((n_id, n_rnti));
+        let soft = noiseless(&scrambling::scrambled(&sent, n_id, n_rnti), &[1; 108]);
         let outcome = Decode::fitting(numbers, soft, &mut random).compared();
-        assert_eq!(outcome.number, 0, "n_ID {n_id}");
-        assert_eq!(
-            Some(outcome.out),
-            published::hardware_payload(),
-            "n_ID {n_id}"
-        );
+        assert_eq!(outcome.number, 0, "{numbers:?}");
+        let payload = published::hardware_payload();
+        assert_eq!(Some(outcome.out), payload, "{numbers:?}");
     }
 }
 
@@ -69,13 +87,8 @@ fn hardware_word_is_read() {
 fn recorded_message_is_read_through_errors() {
     let mut random = Random::new(SEED);
     let payload = published::recorded_payload();
-    for n_id in IDENTITIES {
-        let numbers = Numbers {
-            a: 37,
-            e: 432,
-            rnti: published::SI_RNTI,
-            n_id,
-        };
+    for start in STARTS {
+        let numbers = recorded_numbers(start);
         let call = Encode::fitting(numbers, payload.clone(), &mut random);
         let mut soft = noiseless(&call.library().out, &[60; 432]);
         soft.iter_mut().step_by(9).for_each(|value| *value /= -3);
@@ -84,7 +97,7 @@ fn recorded_message_is_read_through_errors() {
             .step_by(5)
             .for_each(|value| *value = 0);
         let outcome = Decode::fitting(numbers, soft, &mut random).compared();
-        assert_eq!((outcome.number, &outcome.out), (0, &payload), "n_ID {n_id}");
+        assert_eq!((outcome.number, &outcome.out), (0, &payload), "{call:?}");
     }
 }
 
@@ -98,7 +111,8 @@ fn hardware_word_is_found() {
     let payload = published::hardware_payload().expect("a code word");
     for cce in 0..8 {
         let mut region = Region::noise(8, &mut random);
-        let soft = noiseless(&scrambling::scrambled(&sent, region.n_id), &[1; 108]);
+        let signs = scrambling::scrambled(&sent, region.n_id, N_RNTI as u16);
+        let soft = noiseless(&signs, &[1; 108]);
         region.values[108 * cce..108 * (cce + 1)].copy_from_slice(&soft);
         let list: Vec<_> = (0..8).map(|first| at(first, 1, 78, 0)).collect();
         Search::of(&region, &list, &mut random).expect_message(cce, &payload);
@@ -109,22 +123,16 @@ fn hardware_word_is_found() {
 fn recorded_message_is_coded() {
     let mut random = Random::new(SEED);
     let payload = published::recorded_payload();
-    let rnti = published::SI_RNTI;
-    for n_id in IDENTITIES {
-        let numbers = Numbers {
-            a: 37,
-            e: 432,
-            rnti,
-            n_id,
-        };
+    for start in STARTS {
+        let numbers = recorded_numbers(start);
         let call = Encode::fitting(numbers, payload.clone(), &mut random);
         let outcome = call.library();
         assert_eq!(outcome.number, 0);
-        assert_eq!(outcome, call.reference(), "n_ID {n_id}");
+        assert_eq!(outcome, call.reference(), "{call:?}");
     }
     let mut weakest = layout(37, 432).expect("accepted").chosen;
     weakest.sort_unstable_by_key(|&position| construction::rank(position));
-    let u = reference::placed(37, 432, rnti, &payload);
+    let u = reference::placed(37, 432, published::SI_RNTI, &payload);
     assert_eq!([u[weakest[0]], u[weakest[1]], u[weakest[2]]], [0, 0, 1]);
 }
 
@@ -140,6 +148,7 @@ fn repeats(e: u64) -> Vec<usize> {
             e,
             rnti: RNTI,
             n_id: 77,
+            n_rnti: RNTI,
         };
         let sent = sent_bits(numbers, &payload, &mut random);
         let (y, repeats) = sent.split_at(512);
@@ -174,6 +183,7 @@ fn messages(a: u64, e: u64) -> Vec<(Vec<u8>, Vec<u8>)> {
             e,
             rnti: RNTI,
             n_id: 500,
+            n_rnti: 0,
         };
         let sent = sent_bits(numbers, &payload, &mut random);
         (payload, sent)

@@ -3,10 +3,11 @@
 //!
 //! `make robust` shows what was given; CALLS and SEED make the run longer or another.
 
-use conformance::calls::answer;
+use conformance::calls::{answer, second};
 use conformance::faults::FAR;
 use conformance::{Outcome, Random, accepted_pairs, rows, searches, setting, trials};
 use reference::CODED_LENGTHS;
+use reference::searching::NUMBERS;
 use speltfeather::{Candidate, Numbers};
 use std::ops::Range;
 use std::sync::atomic::{AtomicU64, Ordering};
@@ -66,10 +67,7 @@ const SUBJECTS: [Subject; 5] = [
         values: |_, _, _| vec![],
         list: |_, _| vec![],
         library: |x, out| answer(speltfeather::encode(&x.numbers, x.payload, out)),
-        reference: |x, out| {
-            let Numbers { a, e, rnti, n_id } = x.numbers;
-            reference::encode(a, e, rnti, n_id, x.payload, out)
-        },
+        reference: |x, out| reference::encode(&second(&x.numbers), x.payload, out),
     },
     Subject {
         name: "decode",
@@ -82,10 +80,7 @@ const SUBJECTS: [Subject; 5] = [
         values: soft_values,
         list: |_, _| vec![],
         library: |x, out| answer(speltfeather::decode(&x.numbers, x.values, out)),
-        reference: |x, out| {
-            let Numbers { a, e, rnti, n_id } = x.numbers;
-            reference::decode(a, e, rnti, n_id, x.values, out)
-        },
+        reference: |x, out| reference::decode(&second(&x.numbers), x.values, out),
     },
     Subject {
         name: "loopback",
@@ -98,10 +93,7 @@ const SUBJECTS: [Subject; 5] = [
         values: |_, count, random| rows::strengths(count, random),
         list: |_, _| vec![],
         library: |x, out| answer(speltfeather::loopback(&x.numbers, x.payload, x.values, out)),
-        reference: |x, out| {
-            let Numbers { a, e, rnti, n_id } = x.numbers;
-            reference::loopback(a, e, rnti, n_id, x.payload, x.values, out)
-        },
+        reference: |x, out| reference::loopback(&second(&x.numbers), x.payload, x.values, out),
     },
     Subject {
         name: "describe",
@@ -228,21 +220,25 @@ const FAR_STEPS: [u32; 6] = [1, 2, 1 << 16, 1 << 30, 1 << 31, u32::MAX];
 
 /// The message of the region, or one that misses it by a number, near it or any.
 fn candidates(numbers: &Numbers, random: &mut Random) -> Vec<Candidate> {
-    let Numbers { a, e, rnti, n_id } = *numbers;
-    let level = (e / 108) as u32;
-    let right = [u32::from(n_id & 1) * level, level, a as u32, rnti.into()];
+    let level = (numbers.e / 108) as u32;
+    let right = [
+        u32::from(numbers.n_id & 1) * level,
+        level,
+        numbers.a as u32,
+        numbers.rnti.into(),
+        numbers.n_rnti.into(),
+    ];
     let candidate = |random: &mut Random| {
         let mut numbers = right;
         if random.below(2) == 0 {
-            let number = &mut numbers[random.below(4)];
+            let number = &mut numbers[random.below(NUMBERS)];
             *number = match random.below(3) {
                 0 => random.u64() as u32,
                 1 => number.wrapping_add(random.pick(&FAR_STEPS)),
                 _ => random.below(150) as u32,
             };
         }
-        let [first_cce, level, a, rnti] = numbers;
-        searches::at(first_cce, level, a, rnti)
+        searches::candidate(numbers)
     };
     let count = match random.below(64) {
         0..4 => random.between(44, 60),
@@ -311,7 +307,7 @@ impl Case {
     fn library(&self, subject: &Subject, random: &mut Random) -> Outcome {
         let payload = Room::of(&self.payload, GUARD, random);
         let values = Room::of(&self.values, i32::from(GUARD), random);
-        let guard = searches::at(NUMBER_GUARD, NUMBER_GUARD, NUMBER_GUARD, NUMBER_GUARD);
+        let guard = searches::candidate([NUMBER_GUARD; NUMBERS]);
         let list = Room::of(&self.list, guard, random);
         let mut out = Room::of(&self.out, GUARD, random);
         let inputs = Inputs {

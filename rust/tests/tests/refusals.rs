@@ -2,14 +2,12 @@
 
 use conformance::faults::{self, Faults, length};
 use conformance::{Call, Encode, Random};
-use speltfeather::Numbers;
 
 const SEED: u64 = 0x38211;
 
 fn call(a: u64, e: u64, payload: Vec<u8>, out_len: usize, random: &mut Random) -> Encode {
-    let (rnti, n_id) = (random.u16(), random.u16());
     Encode {
-        numbers: Numbers { a, e, rnti, n_id },
+        numbers: random.numbers(a, e),
         payload,
         out: random.bytes(out_len),
     }

@@ -2,10 +2,10 @@
 
 use conformance::faults::BAD;
 use conformance::searches::{
-    FAR, any_at, assert_passed_over, at, in_front, is_decoded, with_message,
+    FAR, any_at, assert_passed_over, at, candidate, in_front, is_decoded, with_message,
 };
 use conformance::{Call, Outcome, Random, Region, Search, assert_threads_agree};
-use reference::searching::{CANDIDATES, CCE, CCES, LEVELS, Place, places};
+use reference::searching::{CANDIDATES, CCE, CCES, LEVELS, NUMBERS, Place, places};
 use speltfeather::Candidate;
 
 const SEED: u64 = 44;
@@ -21,13 +21,15 @@ fn each_place_of_a_region_of_64() {
         Search::of(&region, &[candidate], &mut random).expect_message(0, &payload);
 
         // Behind others of its level, with the same numbers.
-        let Candidate { level, a, rnti, .. } = candidate;
         let elsewhere = all
             .iter()
             .filter(|other| other.level == place.level && other.first_cce != place.first_cce);
         let mut list: Vec<Candidate> = elsewhere
             .take(CANDIDATES - 1)
-            .map(|other| at(other.first_cce as u32, level, a, rnti))
+            .map(|other| Candidate {
+                first_cce: other.first_cce as u32,
+                ..candidate
+            })
             .collect();
         list.push(candidate);
         Search::of(&region, &list, &mut random).expect_message(list.len() - 1, &payload);
@@ -70,9 +72,13 @@ fn extreme_numbers_are_found() {
     let mut random = Random::new(SEED + 3);
     for rnti in [0, 1, 0x7FFF, 0x8000, 0xFFFE, 0xFFFF] {
         for n_id in [0, 1, 0x7FFF, 0x8000, 0xFFFF] {
-            for level in LEVELS {
-                let mut candidate = in_front(level, &mut random);
-                candidate.rnti = rnti;
+            for n_rnti in [0, 1, 0x7FFF, 0x8000, 0xFFFF] {
+                let level = random.pick(&LEVELS);
+                let candidate = Candidate {
+                    rnti,
+                    n_rnti,
+                    ..in_front(level, &mut random)
+                };
                 let mut region = Region::noise(16, &mut random);
                 region.n_id = n_id;
                 let payload = region.send(&candidate, &mut random);
@@ -97,6 +103,55 @@ fn messages_of_another_identity_are_not_found() {
 }
 
 #[test]
+fn top_bit_of_n_rnti_falls_out() {
+    let mut random = Random::new(SEED + 5);
+    for level in LEVELS {
+        for n_rnti in [0, 0x4601, 0x7FFF, 0x8000, 0xFFFF] {
+            let sent = Candidate {
+                n_rnti,
+                ..in_front(level, &mut random)
+            };
+            let (region, payload) = with_message(16, &sent, &mut random);
+            let alike = Candidate {
+                n_rnti: n_rnti ^ 0x8000,
+                ..sent
+            };
+            for list in [[alike, sent], [sent, alike]] {
+                Search::of(&region, &list, &mut random).expect_message(0, &payload);
+            }
+        }
+    }
+}
+
+#[test]
+fn message_is_found_under_its_own_n_rnti() {
+    // Candidates that differ in n_RNTI alone, the right one before and behind the other.
+    let mut random = Random::new(SEED + 6);
+    for level in LEVELS {
+        for n_rnti in [0, 0x4601, 0x8000, 0xFFFF] {
+            let sent = Candidate {
+                n_rnti,
+                ..in_front(level, &mut random)
+            };
+            let (region, payload) = with_message(16, &sent, &mut random);
+            let single_bits = (0..15).map(|bit| n_rnti ^ 1 << bit);
+            for n_rnti in single_bits.chain([n_rnti ^ 0x7FFF, sent.rnti]) {
+                let other = Candidate { n_rnti, ..sent };
+                let lists = [
+                    vec![sent, other],
+                    vec![other, sent],
+                    vec![other, other, sent],
+                ];
+                for (list, right) in lists.iter().zip([0, 1, 2]) {
+                    Search::of(&region, list, &mut random).expect_message(right, &payload);
+                }
+                Search::of(&region, &[other; 2], &mut random).expect(8, 0);
+            }
+        }
+    }
+}
+
+#[test]
 fn one_of_44_is_found_at_each_place_of_the_list() {
     let mut random = Random::new(SEED + 23);
     let all = places(CCES);
@@ -110,7 +165,11 @@ fn one_of_44_is_found_at_each_place_of_the_list() {
         }
         let (region, payload) = with_message(CCES, &list[i], &mut random);
         Search::of(&region, &list, &mut random).expect_message(i, &payload);
+        let right = list[i];
         list[i].rnti ^= 1;
+        Search::of(&region, &list, &mut random).expect(8, 0);
+        list[i] = right;
+        list[i].n_rnti ^= 1;
         Search::of(&region, &list, &mut random).expect(8, 0);
     }
 }
@@ -215,16 +274,19 @@ fn further_messages_are_found_behind_the_one_named() {
     Search::of(&region, &all[behind..], &mut random).expect(8, 0);
 }
 
-/// The list of a handset: candidates of all levels, two sizes and two RNTIs.
+/// The list of a handset: candidates of all levels, two sizes, two RNTIs and three n_RNTIs: 0, the
+/// first RNTI, and what scrambles as it does.
 fn handset(cces: usize, random: &mut Random) -> Vec<Candidate> {
     let all = places(cces);
     let sizes = [random.between(12, 84) as u32, random.between(12, 84) as u32];
     let rntis = [random.u16(), random.u16()];
+    let n_rntis = [0, rntis[0], rntis[0] ^ 0x8000];
     (0..random.between(1, 44))
         .map(|_| {
             let Place { first_cce, level } = random.pick(&all);
             let (a, rnti) = (random.pick(&sizes), random.pick(&rntis).into());
-            at(first_cce as u32, level as u32, a, rnti)
+            let n_rnti = random.pick(&n_rntis).into();
+            candidate([first_cce as u32, level as u32, a, rnti, n_rnti])
         })
         .collect()
 }
@@ -298,11 +360,12 @@ fn sharp_search(random: &mut Random) -> Search {
     let count = random.pick(&[0, 1, 1, 2, 2, 3, 3, 4, 6, 10, 44, 45]);
     let mut candidates: Vec<Candidate> = (0..count).map(|_| random.pick(&sent)).collect();
     for candidate in &mut candidates {
-        match random.below(6) {
+        match random.below(8) {
             0 => candidate.first_cce = sharp(candidate.first_cce, random),
             1 => candidate.level = sharp(candidate.level, random),
             2 => candidate.a = sharp(candidate.a, random),
             3 => candidate.rnti = sharp(candidate.rnti, random),
+            4 => candidate.n_rnti = sharp(candidate.n_rnti, random),
             _ => {}
         }
     }
@@ -313,7 +376,7 @@ fn sharp_search(random: &mut Random) -> Search {
     let mut search = Search::of(&region, &candidates, random);
     match random.below(16) {
         0 => search.region_len -= random.below(3).min(search.region_len),
-        1 => search.list_len -= random.below(4).min(search.list_len),
+        1 => search.list_len -= random.below(NUMBERS).min(search.list_len),
         2 => {
             let length = random.pick(&[0, 139, 141]);
             search.out = random.bytes(length);

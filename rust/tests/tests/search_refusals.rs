@@ -7,7 +7,7 @@ use conformance::searches::{
 };
 use conformance::{Call, Random, Region, Search};
 use reference::parity;
-use reference::searching::{BUFFER, CANDIDATES, CCE, CCES, LEVELS, Place, places};
+use reference::searching::{BUFFER, CANDIDATES, CCE, CCES, LEVELS, NUMBERS, Place, places};
 use speltfeather::Candidate;
 
 const SEED: u64 = 108;
@@ -135,16 +135,21 @@ fn first_cces_that_wrap() {
     // Where the sum of both wraps to 0, and where both are as large as they can be.
     let candidate = in_front(16, &mut random);
     let (region, payload) = with_message(CCES, &candidate, &mut random);
-    let Candidate { a, rnti, .. } = candidate;
     let list = [
-        at(u32::MAX - 15, 16, a, rnti),
-        at(1 << 31, 1 << 31, a, rnti),
-        at(u32::MAX, 1, a.min(84), rnti),
-        at(u32::MAX, u32::MAX, a, rnti),
-        at(0, u32::MAX, a, rnti),
-        at(u32::MAX, 0, a, rnti),
-        at(0, 0, a, rnti),
-    ];
+        (u32::MAX - 15, 16),
+        (1 << 31, 1 << 31),
+        (u32::MAX, 1),
+        (u32::MAX, u32::MAX),
+        (0, u32::MAX),
+        (u32::MAX, 0),
+        (0, 0),
+    ]
+    .map(|(first_cce, level)| Candidate {
+        first_cce,
+        level,
+        a: if level == 1 { 84 } else { candidate.a },
+        ..candidate
+    });
     assert_passed_over(&region, candidate, &payload, &list, &mut random);
 }
 
@@ -162,6 +167,27 @@ fn rntis_of_more_than_16_bits() {
                 ..candidate
             });
             assert_passed_over(&region, candidate, &payload, &list, &mut random);
+        }
+    }
+}
+
+#[test]
+fn n_rntis_of_more_than_16_bits() {
+    let mut random = Random::new(SEED + 32);
+    for n_rnti in [0, 1, 0x4601, 0x7FFF, 0x8000, 0xFFFF] {
+        for level in LEVELS {
+            let mut candidate = in_front(level, &mut random);
+            candidate.n_rnti = n_rnti;
+            let (region, payload) = with_message(level, &candidate, &mut random);
+            let far = [1, 2, 255, 256, 0x7FFF, 0x8000, 0xFFFF].map(|high: u32| high << 16);
+            let list = far.map(|far| Candidate {
+                n_rnti: far | n_rnti,
+                ..candidate
+            });
+            assert_passed_over(&region, candidate, &payload, &list, &mut random);
+            // One behind the other, before the one that is right.
+            let list = [&list[..], &[candidate]].concat();
+            Search::of(&region, &list, &mut random).expect_message(far.len(), &payload);
         }
     }
 }
@@ -193,7 +219,7 @@ fn sizes_without_room_for_the_parity() {
 }
 
 #[test]
-fn other_sizes_and_rntis() {
+fn other_sizes_rntis_and_n_rntis() {
     let mut random = Random::new(SEED + 13);
     for level in LEVELS {
         let mut candidate = in_front(level, &mut random);
@@ -203,8 +229,12 @@ fn other_sizes_and_rntis() {
             rnti: candidate.rnti ^ 1 << bit,
             ..candidate
         });
+        let n_rntis = (0..15).map(|bit| Candidate {
+            n_rnti: candidate.n_rnti ^ 1 << bit,
+            ..candidate
+        });
         let sizes = [12, 39, 41, 64, 84].map(|a| Candidate { a, ..candidate });
-        let others: Vec<Candidate> = rntis.chain(sizes).collect();
+        let others: Vec<Candidate> = rntis.chain(n_rntis).chain(sizes).collect();
         assert_passed_over(&region, candidate, &payload, &others, &mut random);
     }
 }
@@ -356,14 +386,14 @@ fn lengths_of_the_list() {
     let (region, payload) = with_message(2, &candidate, &mut random);
     let mut search = Search::of(&region, &[candidate; 100], &mut random);
     for count in 0..=100 {
-        search.list_len = 4 * count;
+        search.list_len = NUMBERS * count;
         match count {
             0 => search.expect(8, 0),
             1..=CANDIDATES => search.expect_message(0, &payload),
             _ => search.expect(4, 0),
         }
-        for more in (1..4).filter(|more| 4 * count + more <= 400) {
-            search.list_len = 4 * count + more;
+        for more in (1..NUMBERS).filter(|_| count < 100) {
+            search.list_len = NUMBERS * count + more;
             search.expect(4, 0);
         }
     }
@@ -383,7 +413,7 @@ fn candidates_behind_the_list_are_not_tried() {
         list.push(candidate);
         let mut search = Search::of(&region, &list, &mut random);
         search.expect_message(count, &payload);
-        search.list_len = 4 * count;
+        search.list_len = NUMBERS * count;
         search.expect(8, 0);
     }
 }
@@ -414,14 +444,25 @@ fn first_that_applies_is_given() {
     let candidate = at(0, 1, 40, 0x4601);
     let (region, payload) = with_message(CCES + 1, &candidate, &mut random);
     for region_len in [0, 107, 108, CCE * CCES, CCE * CCES + 1, CCE * (CCES + 1)] {
-        for list_len in [0, 1, 4, 7, 4 * 44, 4 * 44 + 1, 4 * 45] {
+        for list_len in [
+            0,
+            1,
+            4,
+            5,
+            9,
+            4 * 44,
+            5 * 44 - 1,
+            5 * 44,
+            5 * 44 + 1,
+            5 * 45,
+        ] {
             for out_len in [0, BUFFER - 1, BUFFER, BUFFER + 1] {
                 let mut search = Search::of(&region, &[candidate; 45], &mut random);
                 search.region_len = region_len;
                 search.list_len = list_len;
                 search.out = random.bytes(out_len);
                 let region_fits = [0, 108, CCE * CCES].contains(&region_len);
-                let list_fits = [0, 4, 4 * 44].contains(&list_len);
+                let list_fits = [0, 5, 5 * 44].contains(&list_len);
                 if !(region_fits && list_fits) {
                     search.expect(4, 0);
                 } else if out_len != BUFFER {
