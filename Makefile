@@ -1,5 +1,5 @@
 # make help          this list
-# make demo          proves and builds the library, codes a message, sends it through noise, reads it back; finds one of three in a region
+# make demo          proves and builds the library, codes a message, sends it through noise, reads it back; finds two of three in a region
 # make test          the gate: all proofs from nothing, the edits that must be refused, then the library's tests
 # make lib           the archive, target/staticlib/libspeltfeather.a
 # make dci           the command dci

@@ -53,6 +53,16 @@ pub const ID: Known = Known {
 --id N        scrambling identity n_ID, 0 to 65535
 ",
 };
+pub const N_RNTI: Known = Known {
+    name: "--n-rnti",
+    expected: "n_RNTI, 0 to 65535, such as 17921 or 0x4601",
+    help: "\
+--n-rnti C    n_RNTI, 0 to 65535, decimal or hexadecimal after 0x. In a
+                user-specific (UE-specific) search space with a configured
+                identity it is the C-RNTI, whatever --rnti is; elsewhere it is
+                0, as it is if it is left out
+",
+};
 pub const PAYLOAD: Known = Known {
     name: "--payload",
     expected: "the payload, in bits or in hexadecimal digits",
@@ -172,6 +182,14 @@ impl Options {
         value.ok_or_else(|| wrong(&self.given(option), option))
     }
 
+    /// The same of an option that may be left out, and is then 0.
+    pub fn number_or_0(&self, option: &Known, bits: u32) -> Result<u64, Failure> {
+        match self.value(option) {
+            Some(_) => self.number(option, bits),
+            None => Ok(0),
+        }
+    }
+
     /// A and E.
     pub fn sizes(&self) -> Result<(u64, u64), Failure> {
         Ok((self.number(&SIZE, 64)?, self.length()?))
@@ -204,12 +222,19 @@ impl Options {
         format!("{} {value}", option.name)
     }
 
-    /// The four numbers of a call.
+    /// The five numbers of a call.
     pub fn numbers(&self) -> Result<Numbers, Failure> {
         let (a, e) = self.sizes()?;
         let rnti = self.number(&RNTI, 16)? as u16;
         let n_id = self.number(&ID, 16)? as u16;
-        Ok(Numbers { a, e, rnti, n_id })
+        let n_rnti = self.number_or_0(&N_RNTI, 16)? as u16;
+        Ok(Numbers {
+            a,
+            e,
+            rnti,
+            n_id,
+            n_rnti,
+        })
     }
 
     /// One of several words; the first if the option is not given.

@@ -23,15 +23,15 @@ pub struct Search {
 }
 
 impl Search {
-    /// Reads list and region.
+    /// Reads list and region; n_RNTI is for the candidates whose line has none.
     ///
     /// # Errors
     /// One of them cannot be read.
-    pub fn read(n_id: u16, list: Input, region: Input) -> Result<Self, Failure> {
+    pub fn read(n_id: u16, n_rnti: u16, list: Input, region: Input) -> Result<Self, Failure> {
         let region = soft::read(&region)?;
         Ok(Self {
             n_id,
-            list: candidates::read(&list)?,
+            list: candidates::read(&list, n_rnti)?,
             source: list.source,
             values: soft::values(&region),
             region,
@@ -96,19 +96,18 @@ impl Search {
 
     /// Why a candidate cannot be decoded; none if its parity alone does not match.
     fn barred(&self, candidate: &Candidate) -> Option<String> {
-        let Candidate { level, a, rnti, .. } = *candidate;
-        if let Some(reason) = misplaced(candidate, self.values.len() / CCE) {
-            return Some(reason);
+        let Candidate { level, a, .. } = *candidate;
+        let reason = misplaced(candidate, self.values.len() / CCE).or_else(|| too_large(candidate));
+        if reason.is_some() {
+            return reason;
         }
-        let Ok(rnti) = u16::try_from(rnti) else {
-            return Some(format!("RNTI {rnti}: expected 0 to 65535"));
-        };
         let (start, length) = (CCE * candidate.first_cce as usize, CCE * level as usize);
         let numbers = Numbers {
             a: a.into(),
             e: length as u64,
-            rnti,
+            rnti: candidate.rnti as u16,
             n_id: self.n_id,
+            n_rnti: candidate.n_rnti as u16,
         };
         let mut payload = vec![0; a.min(140) as usize];
         match decode(&numbers, &self.values[start..start + length], &mut payload).err()? {
@@ -129,6 +128,14 @@ impl Search {
             "soft value {place} of the region is {value}, in its line {line}: expected -127 to 127"
         )
     }
+}
+
+/// Which of the numbers that have 16 bits is larger; none if neither is.
+fn too_large(candidate: &Candidate) -> Option<String> {
+    let numbers = [("RNTI", candidate.rnti), ("n_RNTI", candidate.n_rnti)];
+    let is_larger = |(_, number): &(_, u32)| *number > u16::MAX.into();
+    let (name, number) = numbers.into_iter().find(is_larger)?;
+    Some(format!("{name} {number}: expected 0 to 65535"))
 }
 
 /// Why no message can lie there in a region of so many CCEs; none if one can.

@@ -3,7 +3,7 @@
 use crate::answers::{meaning, of_sizes};
 use crate::commands::Command;
 use crate::failure::Failure;
-use crate::options::{ID, Known, LENGTH, LEVEL, Options, RNTI, SIZE};
+use crate::options::{ID, Known, LENGTH, LEVEL, N_RNTI, Options, RNTI, SIZE};
 use crate::soft::{self, Soft};
 use crate::{inputs, text};
 use speltfeather::{Numbers, Refusal};
@@ -32,7 +32,7 @@ pub const COMMAND: Command = Command {
     name: "decode",
     summary: "reads a payload from E soft values and checks its parity",
     usage: "--size A (--length E | --level L) --rnti R --id N
-                  [--as FORM] [FILE]",
+                  [--n-rnti C] [--as FORM] [FILE]",
     notes: "\
 A soft value is a whole number from -127 to 127 for each coded bit, in the order
 in which they are sent and still scrambled: positive leans to bit 0, negative to
@@ -49,7 +49,7 @@ exit status: 0 if the payload was accepted; the answer's number, 1 to 7, if not
 line is wrong; 66 if the soft values cannot be read or are more than 1 MiB of
 text, or if the output cannot be written
 ",
-    options: &[&SIZE, &LENGTH, &LEVEL, &RNTI, &ID, &AS],
+    options: &[&SIZE, &LENGTH, &LEVEL, &RNTI, &ID, &N_RNTI, &AS],
     operand: Some(&FILE),
     run,
 };

@@ -3,7 +3,7 @@
 use crate::answers::of_sizes;
 use crate::commands::Command;
 use crate::failure::Failure;
-use crate::options::{ID, Known, LENGTH, LEVEL, Options, PAYLOAD, RNTI, SIZE};
+use crate::options::{ID, Known, LENGTH, LEVEL, N_RNTI, Options, PAYLOAD, RNTI, SIZE};
 use crate::{picture, text};
 use speltfeather::{Numbers, Refusal};
 
@@ -23,7 +23,7 @@ pub const COMMAND: Command = Command {
     name: "encode",
     summary: "codes a payload into E scrambled bits",
     usage: "--size A (--length E | --level L) --rnti R --id N
-                  --payload P [--as FORM]",
+                  [--n-rnti C] --payload P [--as FORM]",
     notes: "\
 example: the message that announces SIB1
   dci encode --size 37 --level 4 --rnti 0xffff --id 1 --payload 5400a00000
@@ -32,7 +32,7 @@ exit status: 0 if the message was coded; the answer's number, 1 to 6, if it was
 refused (`dci answers` lists them); 64 if the command line is wrong; 66 if the
 output cannot be written
 ",
-    options: &[&SIZE, &LENGTH, &LEVEL, &RNTI, &ID, &PAYLOAD, &AS],
+    options: &[&SIZE, &LENGTH, &LEVEL, &RNTI, &ID, &N_RNTI, &PAYLOAD, &AS],
     operand: None,
     run,
 };

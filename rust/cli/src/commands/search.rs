@@ -4,7 +4,7 @@ use crate::candidates::Listed;
 use crate::commands::Command;
 use crate::failure::Failure;
 use crate::inputs::{self, Input};
-use crate::options::{ID, Known, Options};
+use crate::options::{self, ID, Known, Options};
 use crate::searching::Search;
 use crate::text;
 use speltfeather::{CCE, Candidate, MAX_PAYLOAD};
@@ -16,6 +16,15 @@ const CANDIDATES: Known = Known {
     help: "\
 --candidates LIST
                 the file with the candidates, or - for standard input
+",
+};
+
+const N_RNTI: Known = Known {
+    name: options::N_RNTI.name,
+    expected: options::N_RNTI.expected,
+    help: "\
+--n-rnti C    n_RNTI of the candidates whose line has none, 0 to 65535; 0 if
+                it is left out
 ",
 };
 
@@ -44,18 +53,23 @@ FILE          the soft values of the region, 108 for each CCE, the first CCE
 pub const COMMAND: Command = Command {
     name: "search",
     summary: "looks for a message at the candidates of a region",
-    usage: "--id N --candidates LIST [--as FORM] [FILE]",
+    usage: "--id N --candidates LIST [--n-rnti C] [--as FORM] [FILE]",
     notes: "\
 The region is 0 to 64 CCEs, in soft values as `dci decode` reads them. The list
 has a line for each of at most 44 candidates:
 
-  # first CCE, level, A, RNTI
-  0   8  37  0xffff
+  # first CCE, level, A, RNTI, n_RNTI
+  0   8  40  0x4601  0x4601
   4   4  37  0xffff
 
 The first CCE is a multiple of the level. Numbers are decimal, or hexadecimal
 after 0x; between them stand spaces, commas, semicolons or brackets; # starts a
 comment.
+
+n_RNTI is needed in a user-specific (UE-specific) search space with a configured
+identity, and is the C-RNTI there. Elsewhere it is 0. A line may leave it out,
+and then has that of --n-rnti. All candidates are tried under one n_ID, that of
+--id: search spaces with different n_ID take a search each.
 
 The candidates are tried in their order up to the first that decodes, and that
 one is shown; to find further messages, search again with the lines behind it.
@@ -82,7 +96,7 @@ exit status: 0 if a candidate was accepted; the answer's number, 4 or 8, if not
 66 if region or list cannot be read or are more than 1 MiB of text, or if the
 output cannot be written
 ",
-    options: &[&ID, &CANDIDATES, &AS],
+    options: &[&ID, &CANDIDATES, &N_RNTI, &AS],
     operand: Some(&FILE),
     run,
 };
@@ -100,6 +114,7 @@ type Form = fn(&Shown) -> Vec<String>;
 
 fn run(options: &Options) -> Result<String, Failure> {
     let n_id = options.number(&ID, 16)? as u16;
+    let n_rnti = options.number_or_0(&N_RNTI, 16)? as u16;
     let forms: [(&str, Form); 4] = [
         ("table", table),
         ("csv", csv),
@@ -108,7 +123,7 @@ fn run(options: &Options) -> Result<String, Failure> {
     ];
     let form = options.choice(&AS, &forms)?;
     let (list, region) = read(options)?;
-    let search = Search::read(n_id, list, region)?;
+    let search = Search::read(n_id, n_rnti, list, region)?;
     let mut payload = [0; MAX_PAYLOAD];
     let found = speltfeather::search(n_id, &search.values, &search.candidates(), &mut payload)
         .map_err(|refusal| Failure::Answer(refusal, search.explained(refusal)))?;
@@ -150,6 +165,7 @@ fn table(shown: &Shown) -> Vec<String> {
         format!("aggregation level        {}", candidate.level),
         format!("payload size A           {}", candidate.a),
         format!("RNTI                     0x{:04x}", candidate.rnti),
+        format!("n_RNTI                   0x{:04x}", candidate.n_rnti),
         format!("payload                  {}", text::hex(shown.payload)),
         format!("CCEs                     {cces}"),
         format!("soft values              {values}"),
@@ -158,13 +174,21 @@ fn table(shown: &Shown) -> Vec<String> {
 
 fn csv(shown: &Shown) -> Vec<String> {
     let Listed { candidate, line } = shown.listed;
-    let Candidate { a, rnti, level, .. } = candidate;
+    let Candidate {
+        level,
+        a,
+        rnti,
+        n_rnti,
+        ..
+    } = candidate;
     let [(cce, last_cce), (value, last_value)] = place(&candidate);
     let (place, payload) = (shown.place, text::hex(shown.payload));
     vec![
-        "candidate,line,first_cce,last_cce,level,size,rnti,payload,first_value,last_value".into(),
+        "candidate,line,first_cce,last_cce,level,size,rnti,n_rnti,payload,first_value,last_value"
+            .into(),
         format!(
-            "{place},{line},{cce},{last_cce},{level},{a},0x{rnti:04x},{payload},{value},{last_value}"
+            "{place},{line},{cce},{last_cce},{level},{a},0x{rnti:04x},0x{n_rnti:04x},{payload},\
+             {value},{last_value}"
         ),
     ]
 }

@@ -2,6 +2,7 @@
 
 mod files;
 mod levels;
+mod n_rnti;
 mod payloads;
 mod run;
 mod search;
@@ -11,8 +12,8 @@ use run::{NUMBERS, SIB1, assert_refused, printed, soft_row};
 
 const SIB1_BITS: &str = "0101010000000000101000000000000000000";
 
-#[test]
-fn coding_prints_what_the_library_gives() {
+/// The bits of the recorded message, as the library gives them under an n_RNTI.
+fn coded(n_rnti: u16) -> Vec<u8> {
     let mut payload = [0; 37];
     for place in [1, 3, 5, 16, 18] {
         payload[place] = 1;
@@ -22,9 +23,16 @@ fn coding_prints_what_the_library_gives() {
         e: 432,
         rnti: 0xFFFF,
         n_id: 1,
+        n_rnti,
     };
-    let mut coded = [0; 432];
+    let mut coded = vec![0; 432];
     speltfeather::encode(&numbers, &payload, &mut coded).expect("accepted");
+    coded
+}
+
+#[test]
+fn coding_prints_what_the_library_gives() {
+    let coded = coded(0);
     let bits: String = coded.iter().map(u8::to_string).collect();
     assert_eq!(
         printed(&format!("encode {NUMBERS} {SIB1} --as bits"), ""),

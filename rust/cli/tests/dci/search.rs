@@ -7,11 +7,17 @@ use std::os::unix::ffi::{OsStrExt, OsStringExt};
 use std::path::{Path, PathBuf};
 use std::process::Command;
 
-/// The three messages of a region of 16 CCEs: at CCE 1, at CCEs 4 to 7 and at CCEs 8 to 9.
-const MESSAGES: [(usize, &str, &str); 3] = [
+/// The messages of a region of 16 CCEs: at CCE 1, at CCEs 4 to 7, 8 to 9 and 10 to 11, each with its
+/// numbers and its payload. The last is in a user-specific space.
+const MESSAGES: [(usize, &str, &str); 4] = [
     (1, "--size 40 --level 1 --rnti 0x4601", "0123456789"),
     (4, "--size 37 --level 4 --rnti 0xffff", "5400a00000"),
     (8, "--size 12 --level 2 --rnti 7", "abc"),
+    (
+        10,
+        "--size 40 --level 2 --rnti 0x4601 --n-rnti 0x5702",
+        "fedcba9876",
+    ),
 ];
 const SIB1: &str = "4 4 37 0xffff\n";
 const SEARCH: &str = "search --id 500 --candidates list.txt region.txt";
@@ -57,7 +63,8 @@ fn assert_printed(run: &Run, printed: &str) {
 
 #[test]
 fn the_candidate_found_is_shown() {
-    let list = "# first CCE, level, A, RNTI\n\n0 4 37 0xffff\n[4, 4, 37, 65535] # SIB1\n8 2 12 7\n";
+    let list = "# first CCE, level, A, RNTI, n_RNTI\n\n0 4 37 0xffff 7\n[4, 4, 37, 65535] # SIB1\n\
+                8 2 12 7\n";
     let room = room("shown", &region(), list);
     let table = "\
 candidate                1, counted from 0: line 4 of list.txt
@@ -65,6 +72,7 @@ first CCE                4
 aggregation level        4
 payload size A           37
 RNTI                     0xffff
+n_RNTI                   0x0000
 payload                  5400a00000
 CCEs                     4-7
 soft values              432-863
@@ -74,8 +82,8 @@ soft values              432-863
         ("table", table),
         (
             "csv",
-            "candidate,line,first_cce,last_cce,level,size,rnti,payload,first_value,last_value\n\
-             1,4,4,7,4,37,0xffff,5400a00000,432,863\n",
+            "candidate,line,first_cce,last_cce,level,size,rnti,n_rnti,payload,first_value,last_value\n\
+             1,4,4,7,4,37,0xffff,0x0000,5400a00000,432,863\n",
         ),
         ("hex", "5400a00000\n"),
         ("bits", "0101010000000000101000000000000000000\n"),
@@ -95,20 +103,30 @@ soft values              432-863
 fn each_message_is_found_by_its_own_numbers() {
     let region = region();
     for (list, shown) in [
-        ("1 1 40 0x4601", "0,1,1,1,1,40,0x4601,0123456789,108,215"),
-        ("1 1 40 17921", "0,1,1,1,1,40,0x4601,0123456789,108,215"),
         (
-            "0x4 0X4 0x25 0xFFFF",
-            "0,1,4,7,4,37,0xffff,5400a00000,432,863",
+            "1 1 40 0x4601",
+            "0,1,1,1,1,40,0x4601,0x0000,0123456789,108,215",
         ),
-        ("8 2 12 7", "0,1,8,9,2,12,0x0007,abc,864,1079"),
+        (
+            "1 1 40 17921 0",
+            "0,1,1,1,1,40,0x4601,0x0000,0123456789,108,215",
+        ),
+        (
+            "0x4 0X4 0x25 0xFFFF 0X8000",
+            "0,1,4,7,4,37,0xffff,0x8000,5400a00000,432,863",
+        ),
+        ("8 2 12 7", "0,1,8,9,2,12,0x0007,0x0000,abc,864,1079"),
         (
             "8 2 12 7\n1 1 40 0x4601",
-            "0,1,8,9,2,12,0x0007,abc,864,1079",
+            "0,1,8,9,2,12,0x0007,0x0000,abc,864,1079",
         ),
         (
             "1 1 40 0x4601\n8 2 12 7",
-            "0,1,1,1,1,40,0x4601,0123456789,108,215",
+            "0,1,1,1,1,40,0x4601,0x0000,0123456789,108,215",
+        ),
+        (
+            "10 2 40 0x4601 22274",
+            "0,1,10,11,2,40,0x4601,0x5702,fedcba9876,1080,1295",
         ),
     ] {
         let room = room("each", &region, list);
@@ -116,6 +134,51 @@ fn each_message_is_found_by_its_own_numbers() {
         assert_eq!((run.status, &run.err[..]), (0, ""), "{list}");
         assert_eq!(run.out.lines().nth(1), Some(shown), "{list}");
     }
+}
+
+#[test]
+fn a_message_in_a_user_specific_space_is_found_by_its_n_rnti_alone() {
+    let region = region();
+    // Without n_RNTI, with that of another, with the RNTI in its place, and with a bit too many.
+    let others = "10 2 40 0x4601\n10 2 40 0x4601 0x5703\n10 2 40 0x4601 0x4601\n\
+                  10 2 40 0x4601 0x15702\n";
+    let said =
+        ["3 of 4 tried; not tried: line 4 of list.txt (n_RNTI 87810: expected 0 to 65535)\n"];
+    assert_said(&searched("specific", &region, others), others, 8, &said);
+    let list = format!("{others}10 2 40 0x4601 0x5702\n4 4 37 0xffff");
+    let table = "\
+candidate                4, counted from 0: line 5 of list.txt
+first CCE                10
+aggregation level        2
+payload size A           40
+RNTI                     0x4601
+n_RNTI                   0x5702
+payload                  fedcba9876
+CCEs                     10-11
+soft values              1080-1295
+";
+    assert_printed(&searched("specific", &region, &list), table);
+}
+
+#[test]
+fn a_line_without_n_rnti_has_that_of_the_option() {
+    let region = region();
+    // The message to all is behind the handset's own, and has n_RNTI 0 in its line.
+    let own = room("option", &region, "10 2 40 0x4601\n4 4 37 0xffff 0");
+    for (option, payload) in [
+        ("--n-rnti 0x5702", "fedcba9876\n"),
+        ("--n-rnti 0xd702", "fedcba9876\n"),
+        ("--n-rnti 0x5703", "5400a00000\n"),
+        ("--n-rnti 0", "5400a00000\n"),
+        ("", "5400a00000\n"),
+    ] {
+        let line = format!("{SEARCH} --as hex {option}");
+        assert_printed(&run_in(&own, &line, ""), payload);
+    }
+    // What a line has counts, and not the option.
+    let both = room("both", &region, "10 2 40 0x4601 0\n4 4 37 0xffff 0x5702");
+    let run = run_in(&both, &format!("{SEARCH} --n-rnti 0x5702"), "");
+    assert_said(&run, "both", 8, &["2 of 2 tried"]);
 }
 
 #[test]
@@ -157,8 +220,14 @@ fn either_may_come_from_standard_input() {
         "search --id 500 --candidates - region.txt",
         "\n4 4 37\n",
     );
-    let said = ["standard input, line 2: 3 numbers: expected four"];
+    let said = ["standard input, line 2: 3 numbers: expected four or five"];
     assert_said(&wrong, "a wrong line", 66, &said);
+}
+
+/// Asserts that a list finds nothing in the region, and what is said of it.
+fn assert_none_found(test: &str, region: &[String], list: &str, said: &str) {
+    let answer = "dci search: answer 8: no candidate accepted: ";
+    assert_said(&searched(test, region, list), list, 8, &[answer, said]);
 }
 
 #[test]
@@ -181,6 +250,18 @@ fn where_none_is_found_it_is_said_how_many_were_tried() {
             "1 of 3 tried; not tried: line 3 of list.txt (first CCE 2: expected a multiple of the \
              level, 4) and 1 more\n",
         ),
+    ] {
+        assert_none_found("none", &region, list, said);
+    }
+    let other = SEARCH.replace("500", "501");
+    let room = room("none", &region, SIB1);
+    assert_said(&run_in(&room, &other, ""), &other, 8, &["1 of 1 tried"]);
+}
+
+#[test]
+fn numbers_that_no_message_has_are_named() {
+    let region = region();
+    for (list, said) in [
         (
             "16 16 37 1",
             "(first CCE 16 with level 16: the region has 16 CCEs)",
@@ -190,6 +271,12 @@ fn where_none_is_found_it_is_said_how_many_were_tried() {
             "(first CCE 4294967280 with level 16: the region has 16 CCEs)",
         ),
         ("4 4 37 0x1ffff", "(RNTI 131071: expected 0 to 65535)"),
+        ("4 4 37 65536 65536", "(RNTI 65536: expected 0 to 65535)"),
+        ("4 4 37 65535 65536", "(n_RNTI 65536: expected 0 to 65535)"),
+        (
+            "4 4 37 0xffff 0xffffffff",
+            "(n_RNTI 4294967295: expected 0 to 65535)",
+        ),
         ("4 4 11 0xffff", "(A 11: expected 12 to 140)"),
         (
             "4 4 4294967295 0xffff",
@@ -197,12 +284,8 @@ fn where_none_is_found_it_is_said_how_many_were_tried() {
         ),
         ("1 1 85 1", "(A 85: expected at most 84 at level 1)"),
     ] {
-        let answer = "dci search: answer 8: no candidate accepted: ";
-        assert_said(&searched("none", &region, list), list, 8, &[answer, said]);
+        assert_none_found("numbers", &region, list, said);
     }
-    let other = SEARCH.replace("500", "501");
-    let room = room("none", &region, SIB1);
-    assert_said(&run_in(&room, &other, ""), &other, 8, &["1 of 1 tried"]);
 }
 
 #[test]
@@ -269,7 +352,7 @@ fn it_is_said_which_of_the_two_has_a_wrong_length() {
     }
     let room = room("lengths", &many[..64], &list(44));
     let found = run_in(&room, &format!("{SEARCH} --as csv"), "");
-    let shown = "43,44,0,0,1,40,0x4601,0123456789,0,107";
+    let shown = "43,44,0,0,1,40,0x4601,0x0000,0123456789,0,107";
     assert_eq!(found.out.lines().nth(1), Some(shown));
 }
 
@@ -279,10 +362,11 @@ fn a_line_that_is_no_candidate_is_named() {
     for (line, said) in [
         (
             "4 4 37",
-            "3 numbers: expected four: first CCE, level, A and RNTI",
+            "3 numbers: expected four or five: first CCE, level, A, RNTI and perhaps n_RNTI\n",
         ),
-        ("4 4 37 0xffff 1", "5 numbers: expected four"),
-        ("4", "1 number: expected four"),
+        ("4 4 37 0xffff 1 2", "6 numbers: expected four or five: "),
+        ("4", "1 number: expected four or five: "),
+        ("4 4 37 0xffff C-RNTI", "`C-RNTI`: expected a whole number"),
         (
             "4 4 37 4294967296",
             "`4294967296`: expected a whole number from 0 to 4294967295",

@@ -1,6 +1,6 @@
 //! The main job on a small real example: the message that announces SIB1, as it was recorded (source
 //! 001 of docs/SOURCES.md), is coded, sent through noise and read back. Then a handset's search for its
-//! own message, some calls that are refused, and the self-test on every accepted size.
+//! messages, some calls that are refused, and the self-test on every accepted size.
 
 use channel::{Channel, Random};
 use cli::{answers, picture, text};
@@ -23,6 +23,7 @@ const NUMBERS: Numbers = Numbers {
     e: 432,
     rnti: 0xFFFF,
     n_id: 1,
+    n_rnti: 0,
 };
 /// Signal-to-noise ratios of a symbol in dB: from easy to hopeless.
 const STRENGTHS: [f64; 6] = [6.0, 0.0, -3.0, -5.0, -7.0, -12.0];
@@ -117,11 +118,18 @@ fn show_refusals(payload: &[u8], coded: &[u8]) {
         encode(&dense, &[0; 100], &mut out[..108]),
     );
     let soft: Vec<i32> = coded.iter().map(|&bit| 64 - 128 * i32::from(bit)).collect();
-    let other = Numbers {
-        rnti: 0x1234,
-        ..NUMBERS
-    };
-    show_refusal("read for RNTI 1234", decode(&other, &soft, &mut out[..37]));
+    let others = [
+        ("read for RNTI 1234", 0x1234, 0),
+        ("read with n_RNTI 1234", NUMBERS.rnti, 0x1234),
+    ];
+    for (call, rnti, n_rnti) in others {
+        let other = Numbers {
+            rnti,
+            n_rnti,
+            ..NUMBERS
+        };
+        show_refusal(call, decode(&other, &soft, &mut out[..37]));
+    }
     assert!(out.iter().all(|&byte| byte == 9), "a refusal wrote");
 }
 
