@@ -299,9 +299,15 @@ static uint32_t next_x2(uint32_t s)
 
 #endif
 
-static void scramble(uint16_t n_id, uint8_t *out, size_t e)
+/* What x2 starts from. */
+static uint32_t c_init(uint16_t n_id, uint16_t n_rnti)
 {
-    uint32_t x1 = 1, x2 = n_id;
+    return ((uint32_t)n_rnti << 16 | n_id) & 0x7FFFFFFF;
+}
+
+static void scramble(uint16_t n_id, uint16_t n_rnti, uint8_t *out, size_t e)
+{
+    uint32_t x1 = 1, x2 = c_init(n_id, n_rnti);
     for (int i = 0; i < 1600 / PLAIN_SCRAMBLER; i++) {
         x1 = next_x1(x1);
         x2 = next_x2(x2);
@@ -317,10 +323,10 @@ static void scramble(uint16_t n_id, uint8_t *out, size_t e)
 }
 
 /* Negates a value where the term of the Gold sequence is 1. */
-static void descramble(uint16_t n_id, const int32_t *soft, size_t e,
-                       int32_t *values)
+static void descramble(uint16_t n_id, uint16_t n_rnti, const int32_t *soft,
+                       size_t e, int32_t *values)
 {
-    uint32_t x1 = 1, x2 = n_id;
+    uint32_t x1 = 1, x2 = c_init(n_id, n_rnti);
     for (int i = 0; i < 1600 / PLAIN_SCRAMBLER; i++) {
         x1 = next_x1(x1);
         x2 = next_x2(x2);
@@ -337,6 +343,7 @@ static void descramble(uint16_t n_id, const int32_t *soft, size_t e,
 }
 
 static uint64_t encode(uint64_t a, uint64_t e, uint16_t rnti, uint16_t n_id,
+                       uint16_t n_rnti,
                        const uint8_t *payload, size_t payload_len,
                        uint8_t *out, size_t out_len)
 {
@@ -355,11 +362,12 @@ static uint64_t encode(uint64_t a, uint64_t e, uint16_t rnti, uint16_t n_id,
     place(row, n, chosen, u);
     transform(u, n);
     match(matching, u, n, e, out);
-    scramble(n_id, out, e);
+    scramble(n_id, n_rnti, out, e);
     return SPELT_DONE;
 }
 
 static uint64_t decode(uint64_t a, uint64_t e, uint16_t rnti, uint16_t n_id,
+                       uint16_t n_rnti,
                        const int32_t *soft, size_t soft_len,
                        uint8_t *out, size_t out_len)
 {
@@ -373,7 +381,7 @@ static uint64_t decode(uint64_t a, uint64_t e, uint16_t rnti, uint16_t n_id,
     size_t k = a + PARITY;
     size_t n = code_length(k, e);
     kind matching = rate_matching(k, e, n);
-    descramble(n_id, soft, e, values);
+    descramble(n_id, n_rnti, soft, e, values);
     gather(matching, values, n, e, d);
     bar(matching, e, n, barred);
     choose(k, n, barred, chosen);

@@ -1,12 +1,13 @@
 //! The programs that are timed, and the messages that they are given.
 
 use channel::{Random, received};
+use conformance::calls::second;
 use conformance::trials;
 use speltfeather::{Numbers, Refusal};
 
 /// A call with the types of the interface: the input is bits or soft values.
 pub type Plain<T> =
-    unsafe extern "C" fn(u64, u64, u16, u16, *const T, usize, *mut u8, usize) -> u64;
+    unsafe extern "C" fn(u64, u64, u16, u16, u16, *const T, usize, *mut u8, usize) -> u64;
 
 unsafe extern "C" {
     static plain_encode_1: Plain<u8>;
@@ -33,10 +34,7 @@ pub const CODERS: Contestants<u8, 4> = [
     |numbers, payload, out| call(unsafe { plain_encode_1 }, numbers, payload, out),
     // SAFETY: a constant of plain.c.
     |numbers, payload, out| call(unsafe { plain_encode_16 }, numbers, payload, out),
-    |numbers, payload, out| {
-        let Numbers { a, e, rnti, n_id } = *numbers;
-        reference(reference::encode(a, e, rnti, n_id, payload, out));
-    },
+    |numbers, payload, out| reference(reference::encode(&second(numbers), payload, out)),
 ];
 
 pub const DECODERS: Contestants<i32, 4> = [
@@ -45,10 +43,7 @@ pub const DECODERS: Contestants<i32, 4> = [
     |numbers, soft, out| call(unsafe { plain_decode_1 }, numbers, soft, out),
     // SAFETY: a constant of plain.c.
     |numbers, soft, out| call(unsafe { plain_decode_16 }, numbers, soft, out),
-    |numbers, soft, out| {
-        let Numbers { a, e, rnti, n_id } = *numbers;
-        reference(reference::decode(a, e, rnti, n_id, soft, out));
-    },
+    |numbers, soft, out| reference(reference::decode(&second(numbers), soft, out)),
 ];
 
 fn library(answer: Result<(), Refusal>) {
@@ -61,14 +56,14 @@ fn reference(answer: (u8, usize)) {
 
 /// Makes a call that must give 0.
 pub fn call<T>(call: Plain<T>, numbers: &Numbers, input: &[T], out: &mut [u8]) {
-    let Numbers { a, e, rnti, n_id } = *numbers;
     // SAFETY: the pointers come from two slices and stand with their lengths.
     let answer = unsafe {
         call(
-            a,
-            e,
-            rnti,
-            n_id,
+            numbers.a,
+            numbers.e,
+            numbers.rnti,
+            numbers.n_id,
+            numbers.n_rnti,
             input.as_ptr(),
             input.len(),
             out.as_mut_ptr(),
@@ -79,21 +74,20 @@ pub fn call<T>(call: Plain<T>, numbers: &Numbers, input: &[T], out: &mut [u8]) {
 }
 
 /// A random payload to be coded.
-pub fn to_code(a: u64, e: u64, random: &mut Random) -> Message<u8> {
+pub fn to_code(numbers: Numbers, random: &mut Random) -> Message<u8> {
     Message {
-        numbers: random.numbers(a, e),
-        input: random.bits(a as usize),
-        out: vec![0; e as usize],
+        numbers,
+        input: random.bits(numbers.a as usize),
+        out: vec![0; numbers.e as usize],
     }
 }
 
 /// A random payload received with noise, not too much to be accepted.
-pub fn to_decode(a: u64, e: u64, random: &mut Random) -> Message<i32> {
-    let numbers = random.numbers(a, e);
+pub fn to_decode(numbers: Numbers, random: &mut Random) -> Message<i32> {
     Message {
         numbers,
         input: accepted(&numbers, random),
-        out: vec![0; a as usize],
+        out: vec![0; numbers.a as usize],
     }
 }
 

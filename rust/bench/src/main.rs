@@ -130,8 +130,12 @@ fn main() {
         return against::print(Path::new(&before));
     }
     println!("C/1 and C/16: plain C with 1 or 16 terms of the Gold sequence at a time");
-    let coding = print_table("Coding", &CODERS, to_code);
-    let decoding = print_table("Decoding", &DECODERS, to_decode);
+    let coding = print_table("Coding", &CODERS, |a, e, random| {
+        to_code(random.numbers(a, e), random)
+    });
+    let decoding = print_table("Decoding", &DECODERS, |a, e, random| {
+        to_decode(random.numbers(a, e), random)
+    });
     search::print();
     profile::print(&coding, &decoding);
 }

@@ -4,7 +4,7 @@
 use crate::contestants::{Contestants, Message, accepted};
 use crate::{Line, Make, lines_of, timed_lines};
 use channel::{Noise, Random};
-use conformance::searches::{at, numbers_of};
+use conformance::searches::{candidate, numbers_of};
 use reference::CODED_LENGTHS;
 use reference::searching::{BUFFER, CANDIDATES, CCE, CCES, LEVELS};
 use speltfeather::{Candidate, Numbers, decode};
@@ -13,23 +13,60 @@ use std::sync::LazyLock;
 const A: u32 = 40;
 const RNTI: u32 = 0x4601;
 
+/// A candidate of the handset's own search space, where n_RNTI is its RNTI.
+fn own(first_cce: usize, level: usize, a: u32) -> Candidate {
+    candidate([first_cce as u32, level as u32, a, RNTI, RNTI])
+}
+
 /// For each level 44 candidates, one behind the other and round the region.
 static ROUND: LazyLock<Vec<Vec<Candidate>>> = LazyLock::new(|| {
-    let list = |level: usize| (0..CANDIDATES).map(move |i| (i * level % CCES, level));
-    let of = |(first, level)| at(first as u32, level as u32, A, RNTI);
-    LEVELS.map(|level| list(level).map(of).collect()).into()
+    let list = |level: usize| (0..CANDIDATES).map(move |i| own(i * level % CCES, level, A));
+    LEVELS.map(|level| list(level).collect()).into()
 });
 
-/// A handset's list: 6, 6, 2, 2 and 1 candidates of the five levels, each with two payload sizes.
-static HANDSET: LazyLock<Vec<Candidate>> = LazyLock::new(|| {
-    let counts = LEVELS.into_iter().zip([6, 6, 2, 2, 1]);
-    let places = counts.flat_map(|(level, count)| (0..count).map(move |i| (i * level, level)));
-    let both = |(first, level)| [A, A + 16].map(|a| at(first as u32, level as u32, a, RNTI));
-    places.flat_map(both).collect()
+/// A handset's list: 2, 2 and 1 candidates of the levels 4, 8 and 16, then 6 and 6 of the levels 1 and
+/// 2, each with two payload sizes.
+fn handset() -> impl Iterator<Item = Candidate> {
+    let counts = [(4, 2), (8, 2), (16, 1), (1, 6), (2, 6)];
+    let places = counts
+        .into_iter()
+        .flat_map(|(level, count)| (0..count).map(move |i| (i * level, level)));
+    places.flat_map(|(first, level)| [A, A + 16].map(|a| own(first, level, a)))
+}
+
+/// How the n_RNTIs of a handset's list follow each other, each with what says which candidate is of the
+/// common search space, where n_RNTI is 0.
+type Order = (&'static str, fn(usize, &Candidate) -> bool);
+
+const ORDERS: [Order; 3] = [
+    ("one", |_, _| false),
+    ("0, then another", |_, candidate| candidate.level >= 4),
+    ("0 and another in turns", |i, _| i % 2 == 0),
+];
+
+/// A handset's list in each of the orders.
+static HANDSETS: LazyLock<Vec<Vec<Candidate>>> = LazyLock::new(|| {
+    let ordered = |(_, is_common): Order| {
+        let listed = handset().enumerate();
+        let n_rnti = |(i, candidate)| match is_common(i, &candidate) {
+            true => Candidate {
+                n_rnti: 0,
+                ..candidate
+            },
+            false => candidate,
+        };
+        listed.map(n_rnti).collect()
+    };
+    ORDERS.map(ordered).into()
 });
+
+/// Of several lists the one that a length says.
+fn list_for(lists: &'static [Vec<Candidate>], e: u64) -> &'static [Candidate] {
+    &lists[(e / CCE as u64).ilog2() as usize]
+}
 
 fn round(e: u64) -> &'static [Candidate] {
-    &ROUND[(e / CCE as u64).ilog2() as usize]
+    list_for(&ROUND, e)
 }
 
 fn searched(list: &[Candidate], n_id: u16, region: &[i32], out: &mut [u8]) -> Option<usize> {
@@ -67,8 +104,14 @@ const FIRST_OF_44: Contestants<i32, 2> = [
 
 /// A handset's list, of which none is accepted.
 const NONE_OF_HANDSET: Contestants<i32, 2> = [
-    |numbers, region, out| assert_eq!(searched(&HANDSET, numbers.n_id, region, out), None),
-    |numbers, region, out| assert_eq!(decoded(&HANDSET, numbers.n_id, region, out), None),
+    |numbers, region, out| {
+        let list = list_for(&HANDSETS, numbers.e);
+        assert_eq!(searched(list, numbers.n_id, region, out), None);
+    },
+    |numbers, region, out| {
+        let list = list_for(&HANDSETS, numbers.e);
+        assert_eq!(decoded(list, numbers.n_id, region, out), None);
+    },
 ];
 
 /// A region of noise.
@@ -78,6 +121,7 @@ fn noise(a: u64, e: u64, random: &mut Random) -> Message<i32> {
     Message {
         numbers: Numbers {
             rnti: RNTI as u16,
+            n_rnti: RNTI as u16,
             ..random.numbers(a, e)
         },
         input,
@@ -109,15 +153,17 @@ fn print_table(title: &str, contestants: &Contestants<i32, 2>, make: Make<i32>) 
     }
 }
 
-/// The length plays no part here.
+/// The length says the order of the n_RNTIs alone.
 fn print_handset() {
-    let lines = timed(&CODED_LENGTHS[..1], &NONE_OF_HANDSET, noise);
-    let [search, decodes] = lines[0].times;
-    let (count, ratio) = (HANDSET.len(), search / decodes);
+    let lines = timed(&CODED_LENGTHS[..ORDERS.len()], &NONE_OF_HANDSET, noise);
     println!("\n### Searching, none of a handset's list is accepted\n");
-    println!("| candidates | search, ns | decodes, ns | search : decodes |");
-    println!("|-----:|------:|------:|-----:|");
-    println!("| {count:>2} | {search:>6.0} | {decodes:>6.0} | {ratio:>6.3} |");
+    println!("| n_RNTI | candidates | search, ns | decodes, ns | search : decodes |");
+    println!("|:-----|-----:|------:|------:|-----:|");
+    for ((order, _), line) in ORDERS.iter().zip(lines) {
+        let [search, decodes] = line.times;
+        let (count, ratio) = (handset().count(), search / decodes);
+        println!("| {order:<22} | {count:>2} | {search:>6.0} | {decodes:>6.0} | {ratio:>6.3} |");
+    }
 }
 
 pub fn print() {
