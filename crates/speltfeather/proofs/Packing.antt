@@ -1,15 +1,15 @@
--- An answer of a call and the buffer that it leaves, as the C calls return them.
+-- What C passes, and an answer of a call and the buffer that it leaves, as the C calls return them.
 -- Assumes nothing.
 use Prim.Native.Nat.{ℕ, _+_, _*_, _/_, _%_, _^_, _≤_, _<_}
 use native.Mathlib.Omega.{arith}
-use mathlib.Core.Path.{_≡_, ap, _∙_}
+use mathlib.Core.Path.{_≡_, refl, ap, _∙_}
 use mathlib.Core.List.{List}
 use lib.IntN.{ℤ}
 use Rattle.nr.specs.declared.Answer.{Answer}
 use Rattle.nr.specs.Answer.{number, placeOf, Outcome, given}
 use Rattle.nr.specs.Searching.{Found, found, searching}
 use Rattle.nr.proofs.Searching.{searching-small}
-use Rattle.speltfeather.specs.Packed.{Returns, named}
+use Rattle.speltfeather.specs.Packed.{numbers, Returns, named}
 
 -- the number plus 256 times the place
 abbrev pub packed : Answer → ℕ
@@ -39,7 +39,12 @@ module _ {number candidate : ℕ} {part : List ℤ} {buffer : List ℕ} {f : Fou
   pub found-small : (f .number ≤ 8) × (f .candidate ≤ 44) → (number ≤ 8) × (candidate ≤ 44)
   found-small l = (omega (arith, ap (λ (f : Found). f .number) e), omega (arith, ap (λ (f : Found). f .candidate) e))
 
--- ---- how a caller takes them apart: as the remainder and the quotient by 256
+-- ---- which number of a call is which, in the order in which C passes them
+
+pub passed-in-order : numbers 1 2 3 4 5 ≡ record { a = 1; e = 2; rnti = 3; «n_id» = 4; «n_rnti» = 5 }
+passed-in-order = refl
+
+-- ---- how a caller takes an answer apart: as the remainder and the quotient by 256
 
 pub unpacked : (o : Outcome) (r : ℕ) (buffer : List ℕ) → Returns o r buffer → o .number < 256 → (r % 256 ≡ o .number) × (r / 256 ≡ o .place)
 unpacked o r buffer h l = (omega (arith, h .answer), omega (arith, h .answer))

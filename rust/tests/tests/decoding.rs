@@ -1,4 +1,4 @@
-//! Decoding of every accepted pair (A, E): noiseless, noisy and hopeless rows, about 118,000.
+//! Decoding of every accepted pair (A, E): noiseless, noisy and hopeless rows, about 121,000.
 
 use conformance::rows::{SHAPES, strengths};
 use conformance::trials::{self, ENERGIES, Tally};

@@ -66,13 +66,18 @@ fn hardware_word_is_sent() {
     }
 }
 
+/// The word from hardware as it is sent, before it is scrambled.
+fn hardware_bits() -> Vec<u8> {
+    rate_matching::matched(
+        &published::hardware_layout(),
+        &published::hardware_code_word(),
+    )
+}
+
 #[test]
 fn hardware_word_is_read() {
     let mut random = Random::new(SEED);
-    let sent = rate_matching::matched(
-        &published::hardware_layout(),
-        &published::hardware_code_word(),
-    );
+    let sent = hardware_bits();
     for (n_id, n_rnti) in STARTS {
         let numbers = hardware_numbers((n_id, n_rnti));
         let soft = noiseless(&scrambling::scrambled(&sent, n_id, n_rnti), &[1; 108]);
@@ -104,10 +109,7 @@ fn recorded_message_is_read_through_errors() {
 #[test]
 fn hardware_word_is_found() {
     let mut random = Random::new(SEED);
-    let sent = rate_matching::matched(
-        &published::hardware_layout(),
-        &published::hardware_code_word(),
-    );
+    let sent = hardware_bits();
     let payload = published::hardware_payload().expect("a code word");
     for cce in 0..8 {
         let mut region = Region::noise(8, &mut random);
