@@ -8,11 +8,11 @@ use mathlib.Core.List.{List, [], _∷_, _++_, map}
 use lib.Dec.{T, eqb, ltb, leb, ltb→lt, leb→le, le→leb}
 use lib.ListN.{length, getD, replicate}
 use lib.Seq.{ext-getD}
-use Rattle.nr.specs.Rows.{count, has, keep, place, Bits, all}
+use Rattle.nr.specs.Rows.{count, has, keep, place, entries, Bits, all}
 use Rattle.nr.specs.Parity.{generator, divide, remainder}
 use Rattle.nr.specs.Interleaver.{interleaver, pattern, interleave, deinterleave}
 use Rattle.nr.proofs.Tests.{distinct, left, right, pair, off, here, there, all-has, all-count}
-use Rattle.nr.proofs.Rows.{kept, keeps, distinct-keep, mapped, source, members, keep-all, ranged, length-count, place-has, length-picked, getD-picked, length-entries, getD-entries}
+use Rattle.nr.proofs.Rows.{kept, keeps, distinct-keep, mapped, source, members, keep-all, ranged, length-count, place-has, length-picked, getD-picked, length-entries, getD-entries, has-getD, place-getD}
 use Rattle.nr.proofs.Zip.{bits-entries}
 
 -- ---- a permutation
@@ -133,6 +133,24 @@ deinterleave-interleave c h = ext-getD 0 (deinterleave (interleave c)) c len (λ
         ∙ ap (λ (k : ℕ). getD (interleave c) (place i (pattern k)) 0) (length-interleave c h)
         ∙ getD-entries (pattern (length c)) c (place i (pattern (length c))) (p .0)
         ∙ ap (λ (x : ℕ). getD c x 0) (p .1)
+
+-- and the other way
+pub interleave-deinterleave : (row : List ℕ) → length row ≤ 164 → interleave (deinterleave row) ≡ row
+unfolding interleave
+interleave-deinterleave row h = ext-getD 0 (interleave (deinterleave row)) row len (λ i l. at i (subst (λ (m : ℕ). i < m) len l))
+  where
+    len : length (interleave (deinterleave row)) ≡ length row
+    len = length-interleave (deinterleave row) (omega (arith, length-deinterleave row)) ∙ length-deinterleave row
+
+    at : (i : ℕ) → i < length row → getD (interleave (deinterleave row)) i 0 ≡ getD row i 0
+    at i l =
+        let k : ℕ = length row in
+        let p = permutes k h in
+        let l′ : i < length (pattern k) = subst (λ (m : ℕ). i < m) (sym (p .size)) l in
+        ap (λ (m : ℕ). getD (entries (pattern m) (deinterleave row)) i 0) (length-deinterleave row)
+        ∙ getD-entries (pattern k) (deinterleave row) i l′
+        ∙ deinterleave-at row (getD (pattern k) i 0) (p .below (getD (pattern k) i 0) (has-getD (pattern k) i 0 l′))
+        ∙ ap (λ (x : ℕ). getD row x 0) (place-getD (pattern k) i (p .once) l′)
 
 -- ---- the table is what the generator gives
 

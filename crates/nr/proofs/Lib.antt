@@ -8,6 +8,7 @@ pub mod Ints
 pub mod Sifting
 pub mod Transform
 pub mod SuccessiveDecoder
+pub mod Noise
 pub mod SubBlocks
 pub mod Construction
 pub mod Interleaver
@@ -21,6 +22,7 @@ pub mod RoundTrip
 pub mod Refusals
 pub mod Promise1
 pub mod Promise3
+pub mod Recoding
 pub mod Loopback
 pub mod Describing
 pub mod Searching

@@ -12,14 +12,14 @@ use lib.ListN.{length, getD}
 use borrow.Author.Tests.{le-ltb, ltb-true, ltb-false}
 use Rattle.nr.specs.declared.Numbers.{Numbers}
 use Rattle.nr.specs.Rows.{first}
-use Rattle.nr.specs.Answer.{firstOf, tests, Outcome, outcome}
+use Rattle.nr.specs.Answer.{firstOf, tests, outcome, Reading, reading}
 use Rattle.nr.specs.Coding.{badByte}
 use Rattle.nr.specs.Loopback.{badStrength, looped, Loops}
 use Rattle.nr.proofs.Tests.{both-fail}
 use Rattle.nr.proofs.Chains.{at-most}
 use Rattle.nr.proofs.Construction.{accepted}
 use Rattle.nr.proofs.Refusals.{longest, first-le, first-none, before-first, FirstBad, first-bad, InTurn, in-turn, in-turn-none, carried, length-is, no-entry}
-use Rattle.nr.proofs.Promise1.{Untouched, untouched, outcome-number, outcome-place, place-below}
+use Rattle.nr.proofs.Promise1.{Untouched, plain, untouched, outcome-number, outcome-place, place-below}
 
 -- a strength is not bad exactly if it is one of 1..127
 pub strength-range : (x : ℤ) → (badStrength x ≡ false) ↔ ((m : ℕ) × ((x ≡ pos (suc m)) × (suc m ≤ 127)))
@@ -32,7 +32,7 @@ strength-range x = (one x, λ r. ap badStrength (r .1 .0) ∙ ap₂ _||_ (le-ltb
     one (negsuc m) e = absurd (subst T e tt)
 
 module _ (s : Numbers) (payload : List ℕ) (strengths : List ℤ) (out : List ℕ) where
-  pub looped-untouched : Untouched out (looped s payload strengths out)
+  pub looped-untouched : Untouched out (plain (looped s payload strengths out))
   unfolding looped
   looped-untouched = untouched _ _ payload out
 
@@ -55,12 +55,12 @@ module _ (s : Numbers) (payload : List ℕ) (strengths : List ℤ) (out : List �
   abbrev pub whole : ℕ
   whole = firstOf 1 (tests (s .a) (s .e) (inputs ∷ output ∷ bad ∷ []))
 
-  pub looped-is : looped s payload strengths out ≡ outcome whole (cond (ltb byte (length payload)) byte (s .a + strength)) payload out
+  pub looped-is : looped s payload strengths out ≡ reading (outcome whole (cond (ltb byte (length payload)) byte (s .a + strength)) payload out) 0
   unfolding looped
   looped-is = refl
 
   looped-number : looped s payload strengths out .number ≡ whole
-  looped-number = ap (λ (o : Outcome). o .number) looped-is ∙ outcome-number whole _ payload out
+  looped-number = ap (λ (o : Reading). o .number) looped-is ∙ outcome-number whole _ payload out
 
   abbrev Inputs : Type 0
   Inputs = (length payload ≡ s .a) × (length strengths ≡ s .e)
@@ -83,13 +83,13 @@ module _ (s : Numbers) (payload : List ℕ) (strengths : List ℤ) (out : List �
   -- a place is small, whatever was handed in
   pub looped-place : looped s payload strengths out .place < 4096
   looped-place =
-      place-below (looped s payload strengths out) out 4096 (omega arith) looped-untouched
+      place-below (plain (looped s payload strengths out)) out 4096 (omega arith) looped-untouched
       (λ e.
       let z = looped-in-turn .six .0 e in
       let c = accepted (s .a) (s .e) (z .0) in
       omega (
         arith,
-        ap (λ (o : Outcome). o .place) looped-is ∙ outcome-place whole _ payload out (sym looped-number ∙ e),
+        ap (λ (o : Reading). o .place) looped-is ∙ outcome-place whole _ payload out (sym looped-number ∙ e),
         bounded (ltb byte (length payload)),
         z .1 .0 .0,
         z .1 .0 .1,
@@ -110,7 +110,7 @@ module _ (s : Numbers) (payload : List ℕ) (strengths : List ℤ) (out : List �
   -- 6 carries it
   pub looped-bad : looped s payload strengths out .number ≡ 6 → BadAt (looped s payload strengths out .place)
   looped-bad e =
-      subst BadAt (sym (ap (λ (o : Outcome). o .place) looped-is ∙ outcome-place whole _ payload out (sym looped-number ∙ e)))
+      subst BadAt (sym (ap (λ (o : Reading). o .place) looped-is ∙ outcome-place whole _ payload out (sym looped-number ∙ e)))
       (go (ltb byte (length payload)) refl)
     where
       go : (b : Bool) → ltb byte (length payload) ≡ b → BadAt (cond b byte (s .a + strength))
@@ -139,10 +139,13 @@ module _ (s : Numbers) (payload : List ℕ) (strengths : List ℤ) (out : List �
             looped-number ∙ n .1 (l .numbers, ((l .input .size, l .size), (l .output, (p, q)))),
       )
 
-  -- and then the output holds the payload
-  pub looped-found : Loops s payload strengths out → looped s payload strengths out ≡ record { number = 0; place = 0; buffer = payload }
+  -- and then the output holds the payload; the noise count is 0 with every number
+  pub looped-found : Loops s payload strengths out → looped s payload strengths out ≡ record { number = 0; place = 0; buffer = payload; noise = 0 }
   unfolding outcome
-  looped-found l = looped-is ∙ ap (λ (i : ℕ). outcome i (cond (ltb byte (length payload)) byte (s .a + strength)) payload out) (sym looped-number ∙ looped-done .1 l)
+  looped-found l = looped-is ∙ ap (λ (i : ℕ). reading (outcome i (cond (ltb byte (length payload)) byte (s .a + strength)) payload out) 0) (sym looped-number ∙ looped-done .1 l)
+
+  pub looped-quiet : looped s payload strengths out .noise ≡ 0
+  looped-quiet = ap (λ (o : Reading). o .noise) looped-is
 
   -- no number is above 6
   pub looped-six : looped s payload strengths out .number ≤ 6

@@ -1,5 +1,6 @@
 -- Promise 1 over the definitions. On every number but 0 the output buffer holds what it held, and only 6 carries a place, that of
 -- the first bad entry; on 0 the buffer holds the whole result: E bits of coding, A bits of decoding. And when 0 and 7 are given.
+-- What is said of an outcome is said of a reading without its noise count; the count has its own laws in Noise and Recoding.
 -- Assumes nothing.
 use Prim.Native.Nat.{ℕ, zero, suc, _≤_, _<_}
 use native.Mathlib.Nat.{suc-ne-zero}
@@ -16,7 +17,7 @@ use borrow.Author.Tests.{le-ltb, ltb-false, eq-eqb, ne-eqb, eqb-true, eqb-false}
 use Rattle.nr.specs.Rows.{first, Bits}
 use Rattle.nr.specs.declared.Numbers.{Numbers}
 use Rattle.nr.specs.Numbers.{K}
-use Rattle.nr.specs.Answer.{refusal, refusalOf, Outcome, outcome}
+use Rattle.nr.specs.Answer.{refusal, refusalOf, Outcome, outcome, Reading}
 use Rattle.nr.specs.Construction.{Layout, layout}
 use Rattle.nr.specs.Scrambling.{cInit}
 use Rattle.nr.specs.Parity.{parityMatches}
@@ -35,6 +36,10 @@ pub record Untouched (old : List ℕ) (o : Outcome) : Type 0 where
   pub buffer : o .number ≢ 0 → o .buffer ≡ old
   pub place : o .number ≢ 6 → o .place ≡ 0
 
+-- a reading without its noise count
+abbrev pub plain : Reading → Outcome
+plain r = record { number = r .number; place = r .place; buffer = r .buffer }
+
 pub untouched : (i at : ℕ) (new old : List ℕ) → Untouched old (outcome i at new old)
 unfolding outcome
 untouched zero at new old = record { buffer = λ h. absurd (h refl); place = λ h. refl }
@@ -44,11 +49,16 @@ pub coding-untouched : (s : Numbers) (payload out : List ℕ) → Untouched out 
 unfolding coding codingFor
 coding-untouched s payload out = untouched _ _ _ out
 
-pub decoding-untouched : (s : Numbers) (soft : List ℤ) (out : List ℕ) → Untouched out (decoding s soft out)
+pub decoding-untouched : (s : Numbers) (soft : List ℤ) (out : List ℕ) → Untouched out (plain (decoding s soft out))
 unfolding decoding decodingFor
 decoding-untouched s soft out = untouched _ _ _ out
 
 -- ---- the number
+
+pub outcome-buffer : (i at : ℕ) (new old : List ℕ) → i ≡ 0 → outcome i at new old .buffer ≡ new
+unfolding outcome
+outcome-buffer zero at new old e = refl
+outcome-buffer (suc i) at new old e = absurd (suc-ne-zero i e)
 
 pub outcome-number : (i at : ℕ) (new old : List ℕ) → outcome i at new old .number ≡ i
 unfolding outcome
@@ -194,6 +204,19 @@ module _ (s : Numbers) (soft : List ℤ) (out : List ℕ) where
     λ r. outcome-number _ _ _ out ∙ ap (λ (j : ℕ). orParity j (s .a) b) (ran (r .0)) ∙ differs (s .a) b (r .1),
   )
 
+  -- and no number is above 7
+  pub decoding-seven : decoding s soft out .number ≤ 7
+  unfolding decoding decodingFor orParity
+  decoding-seven = rw (outcome-number (orParity i (s .a) b) (first badSoft soft) (take (s .a) b) out) (go i (at-most-six (s .a) (s .e) badSoft soft (s .e) out (s .a)))
+    where
+      go : (i : ℕ) → i ≤ 6 → orParity i (s .a) b ≤ 7
+      go zero l = parity (parityMatches (s .a) b)
+        where
+          parity : (t : Bool) → cond t 0 7 ≤ 7
+          parity true = omega arith
+          parity false = omega arith
+      go (suc i) l = omega arith
+
 -- where 6 is given, A and E are accepted and the payload is A long
 coding-sizes : (s : Numbers) (payload out : List ℕ) → coding s payload out .number ≡ 6 → (refusal (s .a) (s .e) ≡ 0) × (length payload ≡ s .a)
 unfolding coding codingFor
@@ -233,7 +256,7 @@ decoding-sizes s soft out e =
 
 pub decoding-place : (s : Numbers) (soft : List ℤ) (out : List ℕ) → decoding s soft out .place < 1728
 decoding-place s soft out =
-    place-below (decoding s soft out) out 1728 (omega arith) (decoding-untouched s soft out)
+    place-below (plain (decoding s soft out)) out 1728 (omega arith) (decoding-untouched s soft out)
     (λ six. let sizes = decoding-sizes s soft out six in omega (arith, decoding-bad s soft out six .inside, sizes .1, longest (s .e) (accepted (s .a) (s .e) (sizes .0) .length)))
 
 -- ---- on 0
@@ -254,7 +277,7 @@ coding-whole s payload out =
     whole (s .e) _ _ _ out (λ e. length-coded (layout (K (s .a)) (s .e)) (s .e) (s .rnti) (cInit s) payload)
     (bits-coded (layout (K (s .a)) (s .e)) (s .e) (s .rnti) (cInit s) payload)
 
-pub decoding-whole : (s : Numbers) (soft : List ℤ) (out : List ℕ) → Whole (s .a) (decoding s soft out)
+pub decoding-whole : (s : Numbers) (soft : List ℤ) (out : List ℕ) → Whole (s .a) (plain (decoding s soft out))
 unfolding decoding decodingFor
 decoding-whole s soft out = whole (s .a) _ _ _ out size (bits-take (s .a) b (bits-received l (s .e) (s .rnti) (cInit s) soft))
   where

@@ -17,12 +17,12 @@ use Rattle.nr.specs.declared.Numbers.{Numbers}
 use Rattle.nr.specs.declared.RateMatching.the-variants.{Repetition, Puncturing, Shortening}
 use Rattle.nr.specs.Rows.{count, first, Bits}
 use Rattle.nr.specs.Numbers.{K}
-use Rattle.nr.specs.Answer.{refusalOf, Outcome, outcome}
+use Rattle.nr.specs.Answer.{refusalOf, Outcome, outcome, Reading, reading, onDone}
 use Rattle.nr.specs.Parity.{attach, parityMatches}
 use Rattle.nr.specs.Construction.{n, N, lowRate, rateMatching, front, unsent, barred, Layout, layout}
 use Rattle.nr.specs.Scrambling.{cInit}
 use Rattle.nr.specs.Coding.{coded, badByte, codingFor, coding}
-use Rattle.nr.specs.Decoding.{received, orParity, badSoft, decodingFor, decoding}
+use Rattle.nr.specs.Decoding.{received, orParity, badSoft, noiseOf, decodingFor, decoding}
 use Rattle.nr.specs.Promise3.{Accepted, Payload, Noiseless, Promise3, HypothesesMet}
 use Rattle.nr.specs.RateMatching.{Fits}
 use Rattle.nr.proofs.Tests.{is}
@@ -33,6 +33,7 @@ use Rattle.nr.proofs.SuccessiveDecoder.{Sign}
 use Rattle.nr.proofs.Construction.{Sized, accepted, positions}
 use Rattle.nr.proofs.Refusals.{first-none, passes-exactly}
 use Rattle.nr.proofs.RoundTrip.{length-coded, bits-coded, Sound, round-trip}
+use Rattle.nr.proofs.Noise.{sign-right, noise-none}
 
 -- ---- document 01's layout is sound
 
@@ -77,7 +78,7 @@ module _ (s : Numbers) (payload : List ℕ) (a : Accepted s) (p : Payload s payl
     | no h ↦ p .bits k (lt-of-not-le h)
   ]
 
-  coding-is : (out : List ℕ) → length out ≡ s .e → coding s payload out ≡ record { number = 0; place = 0; buffer = sent }
+  pub coding-is : (out : List ℕ) → length out ≡ s .e → coding s payload out ≡ record { number = 0; place = 0; buffer = sent }
   unfolding coding codingFor outcome badByte
   coding-is out e =
       ap (λ (i : ℕ). outcome i (first badByte payload) sent out)
@@ -111,13 +112,19 @@ module _ (s : Numbers) (payload : List ℕ) (a : Accepted s) (p : Payload s payl
         c : Sized (K (s .a)) (s .e)
         c = accepted (s .a) (s .e) a
 
-    decoding-is : decoding s soft out′ ≡ record { number = 0; place = 0; buffer = payload }
-    unfolding decoding decodingFor outcome orParity badSoft
+    none-wrong : noiseOf l s soft payload ≡ 0
+    unfolding noiseOf
+    none-wrong = noise-none soft sent .1 (λ k h. sign-right (signs k (subst (λ (m : ℕ). k < m) (clean .size) h)))
+
+    decoding-is : decoding s soft out′ ≡ record { number = 0; place = 0; buffer = payload; noise = 0 }
+    unfolding decoding decodingFor outcome onDone orParity badSoft
     decoding-is =
         let A : ℕ = s .a in
-        ap₂ (λ (i : ℕ) (b : List ℕ). outcome (orParity i A b) (first badSoft soft) (take A b) out′) unbad received-is
-        ∙ ap (λ (t : Bool). outcome (cond t 0 7) (first badSoft soft) (take A (attach payload)) out′) (is (parityMatches A (attach payload)) (accepts A payload (p .size)))
-        ∙ ap (λ (r : List ℕ). outcome 0 (first badSoft soft) r out′) (attach-front A payload (p .size))
+        let at : ℕ → List ℕ → Reading = λ i r. reading (outcome i (first badSoft soft) r out′) (onDone i (noiseOf l s soft r)) in
+        ap₂ (λ (i : ℕ) (b : List ℕ). at (orParity i A b) (take A b)) unbad received-is
+        ∙ ap (λ (t : Bool). at (cond t 0 7) (take A (attach payload))) (is (parityMatches A (attach payload)) (accepts A payload (p .size)))
+        ∙ ap (at 0) (attach-front A payload (p .size))
+        ∙ ap (λ (c : ℕ). record { number = 0; place = 0; buffer = payload; noise = c }) none-wrong
       where
         unbad : refusalOf (s .a) (s .e) badSoft soft (s .e) out′ (s .a) ≡ 0
         unbad =

@@ -22,7 +22,7 @@ use Rattle.nr.specs.SuccessiveDecoder.{descramble, codeRow, marks}
 use Rattle.nr.specs.Coding.{placed, codeWord, coded}
 use Rattle.nr.specs.Decoding.{decided, received}
 use Rattle.nr.proofs.Tests.{holds}
-use Rattle.nr.proofs.Rows.{length-table, getD-table, length-entries, getD-entries, has-getD, place-absent, place-getD, ascending-distinct}
+use Rattle.nr.proofs.Rows.{length-table, getD-table, length-entries, getD-entries, has-getD, place-has, place-absent, place-getD, ascending-distinct}
 use Rattle.nr.proofs.Zip.{bits-entries, length-xors, getD-xors, bits-xors}
 use Rattle.nr.proofs.Parity.{length-attach, bits-attach, length-maskRnti, bits-maskRnti, maskRnti-twice}
 use Rattle.nr.proofs.Interleaver.{length-interleave, bits-interleave, length-deinterleave, deinterleave-interleave}
@@ -78,6 +78,26 @@ module _ (N : ℕ) (positions bits : List ℕ) where
       getD-entries positions (placed N positions bits) i l
       ∙ placed-at (getD positions i 0) (below (getD positions i 0) (has-getD positions i 0 l))
       ∙ ap (λ (j : ℕ). getD bits j 0) (place-getD positions i (ascending-distinct positions up) l))
+
+-- read and placed again: a row that has 0 where no information position is
+pub placed-again : (N : ℕ) (positions u : List ℕ) → length u ≡ N → ((p : ℕ) → p < N → T (not (has p positions)) → getD u p 0 ≡ 0)
+    → placed N positions (entries positions u) ≡ u
+placed-again N positions u e off =
+    let row : List ℕ = placed N positions (entries positions u) in
+    let len : length row ≡ N = length-placed N positions (entries positions u) in
+    ext-getD 0 row u (len ∙ sym e) (λ p h. at p (subst (λ (m : ℕ). p < m) len h))
+  where
+    at : (p : ℕ) → p < N → getD (placed N positions (entries positions u)) p 0 ≡ getD u p 0
+    at p h = go (has p positions) refl
+      where
+        go : (b : Bool) → has p positions ≡ b → getD (placed N positions (entries positions u)) p 0 ≡ getD u p 0
+        go true q =
+            let w = place-has p positions (holds q) in
+            placed-at N positions (entries positions u) p h
+            ∙ getD-entries positions u (place p positions) (w .0) ∙ ap (λ (i : ℕ). getD u i 0) (w .1)
+        go false q =
+            let t : T (not (has p positions)) = subst (λ (b : Bool). T (not b)) (sym q) tt in
+            placed-off N positions (entries positions u) (length-entries positions u) p h t ∙ sym (off p h t)
 
 -- ---- what coding and decoding give, for any layout
 

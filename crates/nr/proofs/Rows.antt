@@ -103,6 +103,18 @@ module _ (f : ℕ → Bool) where
   keep-all [] e = refl
   keep-all (x ∷ xs) e = rw (is (f x) (e x (here x xs)), keep-all xs (λ p h. e p (there p x xs h)))
 
+  pub keep-none : (xs : List ℕ) → ((x : ℕ) → T (has x xs) → f x ≡ false) → keep f xs ≡ []
+  keep-none [] e = refl
+  keep-none (x ∷ xs) e = rw (e x (here x xs), keep-none xs (λ p h. e p (there p x xs h)))
+
+  pub length-keep : (xs : List ℕ) → length (keep f xs) ≤ length xs
+  length-keep [] = omega arith
+  length-keep (x ∷ xs) = go (f x) (length-keep xs)
+    where
+      go : (c : Bool) → length (keep f xs) ≤ length xs → length (cond c (x ∷ keep f xs) (keep f xs)) ≤ suc (length xs)
+      go true l = omega arith
+      go false l = omega arith
+
 pub keep-cong : (f g : ℕ → Bool) (xs : List ℕ) → ((p : ℕ) → T (has p xs) → f p ≡ g p) → keep f xs ≡ keep g xs
 keep-cong f g [] e = refl
 keep-cong f g (x ∷ xs) e = rw (e x (here x xs), keep-cong f g xs (λ p h. e p (there p x xs h)))

@@ -14,17 +14,18 @@ use lib.Seq.{length-take-le, length-front, take-at, drop-at, getD-take, getD-dro
 use borrow.Author.Tests.{lt-ltb, ltb-true, ltb-false, le-leb, leb-true, eq-eqb, eqb-true, not-false}
 use Rattle.nr.specs.declared.Candidate.{Candidate}
 use Rattle.nr.specs.Rows.{count, has, first, Bits}
-use Rattle.nr.specs.Answer.{lengths, refusal, firstOf, Outcome}
+use Rattle.nr.specs.Answer.{lengths, refusal, firstOf, Reading}
 use Rattle.nr.specs.Coding.{coding}
 use Rattle.nr.specs.Decoding.{decoding}
 use Rattle.nr.specs.Promise3.{Accepted, Payload, Noiseless}
-use Rattle.nr.specs.Searching.{levels, fits, candidateAt, stretchOf, numbersOf, tried, sixteenBits, decodes, Found, found, accepted, searched, whole, searchRefusal, orRefused, searching, startOf}
+use Rattle.nr.specs.Searching.{levels, fits, candidateAt, stretchOf, numbersOf, tried, sixteenBits, decodes, Found, found, unfound, accepted, searched, whole, searchRefusal, orRefused, searching, startOf}
 use Rattle.nr.proofs.Tests.{is, holds, clash, both-pass, both-fail, fails, one-of, has-one}
 use Rattle.nr.proofs.Rows.{mapped}
 use Rattle.nr.proofs.Chains.{none, nothing, given-by}
 use Rattle.nr.proofs.Refusals.{Listed, FirstBelow, first-unique, first-below, none-below, denied, length-is, accepted-exactly}
-use Rattle.nr.proofs.Promise1.{Whole as WholeBits, DecodingRuns, decoding-done, decoding-untouched, decoding-whole}
+use Rattle.nr.proofs.Promise1.{Whole as WholeBits, plain, DecodingRuns, decoding-done, decoding-untouched, decoding-whole}
 use Rattle.nr.proofs.Promise3.{promise3}
+use Rattle.nr.proofs.Recoding.{decoding-noise-small}
 
 -- ---- where a candidate may lie
 
@@ -143,9 +144,9 @@ module _ (n : ℕ) (region : List ℤ) (list out : List ℕ) where
 
   -- the four ways in which a search ends
   pub data Ending : Found → Type 0 where
-    wrong-sizes : (Sizes → ⊥) → Ending (found 4 0 [] out)
-    wrong-buffer : Sizes → length out ≢ 140 → Ending (found 5 0 [] out)
-    none-decodes : Sizes → length out ≡ 140 → NoneDecodes → Ending (found 8 0 [] out)
+    wrong-sizes : (Sizes → ⊥) → Ending (unfound 4 out)
+    wrong-buffer : Sizes → length out ≢ 140 → Ending (unfound 5 out)
+    none-decodes : Sizes → length out ≡ 140 → NoneDecodes → Ending (unfound 8 out)
     first-decodes : Sizes → length out ≡ 140 → (i : ℕ) → First i → Ending (accepted n region list out i)
 
   -- ---- that it ends in one of them
@@ -171,14 +172,14 @@ module _ (n : ℕ) (region : List ℤ) (list out : List ℕ) where
   unrefused e = let p = none 3 (badSizes ∷ badBuffer ∷ []) e in (sizes-are .0 (p .0), length-is (length out) 140 .0 (p .1 .0))
 
   -- 4 or 5
-  pub refused-is : (i : ℕ) → i ≢ 0 → searchRefusal (length region) (length list) (length out) ≡ i → found i 0 [] out ≡ answer
+  pub refused-is : (i : ℕ) → i ≢ 0 → searchRefusal (length region) (length list) (length out) ≡ i → unfound i out ≡ answer
   unfolding searching orRefused
   refused-is zero z e = absurd (z refl)
   refused-is (suc i) z e = ap (λ (r : ℕ). orRefused r out (searched n region list out)) (sym e)
 
-  let-pass : refused ≡ 0 → (d : Bool) → ltb place (length list / 5) ≡ d → cond d (accepted n region list out place) (found 8 0 [] out) ≡ answer
+  let-pass : refused ≡ 0 → (d : Bool) → ltb place (length list / 5) ≡ d → cond d (accepted n region list out place) (unfound 8 out) ≡ answer
   unfolding searching searchRefusal orRefused searched
-  let-pass e d e′ = ap₂ (λ (r : ℕ) (t : Bool). orRefused r out (cond t (accepted n region list out place) (found 8 0 [] out))) (sym e) (sym e′)
+  let-pass e d e′ = ap₂ (λ (r : ℕ) (t : Bool). orRefused r out (cond t (accepted n region list out place) (unfound 8 out))) (sym e) (sym e′)
 
   pub searching-ends : Ending answer
   unfolding searchRefusal
@@ -247,12 +248,12 @@ module _ (n : ℕ) (region : List ℤ) (list out : List ℕ) where
   -- ---- on 0
 
   -- the candidate is the first that decodes; the stretch is its row, of E values, and what decoding makes of it is the front of the
-  -- buffer, A bits; the rest of the buffer is as it was
+  -- buffer, A bits, with its noise count; the rest of the buffer is as it was
   pub record Names (f : Found) (c : Candidate) : Type 0 where
     pub is-first : First (f .candidate)
     pub stretch-is : f .stretch ≡ stretchOf region c
     pub values : length (f .stretch) ≡ 108 * c .level
-    pub decoded : decoding (numbersOf n c) (f .stretch) (take (c .a) out) ≡ record { number = 0; place = 0; buffer = take (c .a) (f .buffer) }
+    pub decoded : decoding (numbersOf n c) (f .stretch) (take (c .a) out) ≡ record { number = 0; place = 0; buffer = take (c .a) (f .buffer); noise = f .noise }
     pub front : length (take (c .a) (f .buffer)) ≡ c .a
     pub bits : Bits (take (c .a) (f .buffer))
     pub rest : drop (c .a) (f .buffer) ≡ drop (c .a) out
@@ -265,7 +266,7 @@ module _ (n : ℕ) (region : List ℤ) (list out : List ℕ) where
     is-first = g;
     stretch-is = refl;
     values = r .size;
-    decoded = ap₂ (λ (k p : ℕ). record { number = k; place = p; buffer = new }) done placeless ∙ ap (λ (b : List ℕ). record { number = 0; place = 0; buffer = b }) (sym front-is);
+    decoded = ap₂ (λ (k p : ℕ). taken k p new) done placeless ∙ ap (taken 0 0) (sym front-is);
     front = ap length front-is ∙ a-long;
     bits = subst Bits (sym front-is) (w .bits done);
     rest = drop-at new (drop (c .a) out) (c .a) a-long;
@@ -279,6 +280,9 @@ module _ (n : ℕ) (region : List ℤ) (list out : List ℕ) where
       new : List ℕ
       new = tried n region out c .buffer
 
+      taken : ℕ → ℕ → List ℕ → Reading
+      taken k p buffer = record { number = k; place = p; buffer = buffer; noise = tried n region out c .noise }
+
       r : DecodingRuns (numbersOf n c) (stretchOf region c) (take (c .a) out)
       r = runs n region out c (g .itself)
 
@@ -288,7 +292,7 @@ module _ (n : ℕ) (region : List ℤ) (list out : List ℕ) where
       placeless : tried n region out c .place ≡ 0
       placeless = decoding-untouched (numbersOf n c) (stretchOf region c) (take (c .a) out) .place (λ e. omega (arith, done))
 
-      w : WholeBits (c .a) (tried n region out c)
+      w : WholeBits (c .a) (plain (tried n region out c))
       w = decoding-whole (numbersOf n c) (stretchOf region c) (take (c .a) out)
 
       a-long : length new ≡ c .a
@@ -309,11 +313,12 @@ module _ (n : ℕ) (region : List ℤ) (list out : List ℕ) where
 
   -- ---- on every other number
 
-  -- nothing is named, and the buffer is as it was
+  -- nothing is named or counted, and the buffer is as it was
   pub record Nameless (f : Found) : Type 0 where
     pub candidate : f .candidate ≡ 0
     pub stretch : f .stretch ≡ []
     pub buffer : f .buffer ≡ out
+    pub noise : f .noise ≡ 0
     pub start : startOf list f ≡ 0
 
   pub searching-nameless : answer .number ≢ 0 → Nameless answer
@@ -321,21 +326,33 @@ module _ (n : ℕ) (region : List ℤ) (list out : List ℕ) where
   searching-nameless = go answer searching-ends
     where
       go : (f : Found) → Ending f → f .number ≢ 0 → Nameless f
-      go f (wrong-sizes s) e = record { candidate = refl; stretch = refl; buffer = refl; start = refl }
-      go f (wrong-buffer s b) e = record { candidate = refl; stretch = refl; buffer = refl; start = refl }
-      go f (none-decodes s b h) e = record { candidate = refl; stretch = refl; buffer = refl; start = refl }
+      go f (wrong-sizes s) e = record { candidate = refl; stretch = refl; buffer = refl; noise = refl; start = refl }
+      go f (wrong-buffer s b) e = record { candidate = refl; stretch = refl; buffer = refl; noise = refl; start = refl }
+      go f (none-decodes s b h) e = record { candidate = refl; stretch = refl; buffer = refl; noise = refl; start = refl }
       go f (first-decodes s b i g) e = absurd (e refl)
 
-  -- the number and the candidate are small
-  pub searching-small : (answer .number ≤ 8) × (answer .candidate ≤ 44)
-  unfolding accepted
+  -- the number, the candidate and the noise count are small
+  pub record Small (f : Found) : Type 0 where
+    pub number : f .number ≤ 8
+    pub candidate : f .candidate < 44
+    pub noise : f .noise ≤ 1728
+
+  pub searching-small : Small answer
+  unfolding accepted tried
   searching-small = go answer searching-ends
     where
-      go : (f : Found) → Ending f → (f .number ≤ 8) × (f .candidate ≤ 44)
-      go f (wrong-sizes s) = (omega arith, omega arith)
-      go f (wrong-buffer s b) = (omega arith, omega arith)
-      go f (none-decodes s b h) = (omega arith, omega arith)
-      go f (first-decodes s b i g) = (omega arith, omega (arith, g .below, s .1 .1))
+      none : (i : ℕ) → i ≤ 8 → Small (unfound i out)
+      none i l = record { number = l; candidate = omega arith; noise = omega arith }
+
+      go : (f : Found) → Ending f → Small f
+      go f (wrong-sizes s) = none 4 (omega arith)
+      go f (wrong-buffer s b) = none 5 (omega arith)
+      go f (none-decodes s b h) = none 8 (omega arith)
+      go f (first-decodes s b i g) = record {
+        number = omega arith;
+        candidate = omega (arith, g .below, s .1 .1);
+        noise = decoding-noise-small (numbersOf n (candidateAt list i)) (stretchOf region (candidateAt list i)) (take (candidateAt list i .a) out);
+      }
 
   -- ---- what it is for
 
@@ -350,10 +367,10 @@ module _ (n : ℕ) (region : List ℤ) (list out : List ℕ) where
       go f (first-decodes s′ b′ j g′) = ap (accepted n region list out) (first-unique g′ g)
 
   -- and where none does, none is
-  pub none-named : Sizes → length out ≡ 140 → NoneDecodes → answer ≡ found 8 0 [] out
+  pub none-named : Sizes → length out ≡ 140 → NoneDecodes → answer ≡ unfound 8 out
   none-named s b h = go answer searching-ends
     where
-      go : (f : Found) → Ending f → f ≡ found 8 0 [] out
+      go : (f : Found) → Ending f → f ≡ unfound 8 out
       go f (wrong-sizes s′) = absurd (s′ s)
       go f (wrong-buffer s′ b′) = absurd (b′ b)
       go f (none-decodes s′ b′ h′) = refl
@@ -369,13 +386,13 @@ module _ (n : ℕ) (region : List ℤ) (list out : List ℕ) where
     pub output : length out′ ≡ 108 * candidateAt list i .level
     pub clean : Noiseless (numbersOf n (candidateAt list i)) (coding (numbersOf n (candidateAt list i)) payload out′ .buffer) (stretchOf region (candidateAt list i))
 
-  -- if none before it decodes, it is found, with that payload
+  -- if none before it decodes, it is found, with that payload and the noise count 0
   pub searching-finds : Sizes → length out ≡ 140 → (i : ℕ) (payload out′ : List ℕ) → Carries i payload out′ → ((j : ℕ) → j < i → decodesAt j ≡ false)
-      → answer ≡ found 0 i (stretchOf region (candidateAt list i)) (payload ++ drop (candidateAt list i .a) out)
+      → answer ≡ found 0 i (stretchOf region (candidateAt list i)) (payload ++ drop (candidateAt list i .a) out) 0
   unfolding accepted tried
   searching-finds s b i payload out′ h before =
-      first-named s b (record { below = h .below; itself = decodes-exactly n region out c .1 (h .fit, (h .sixteen, ap (λ (o : Outcome). o .number) gives)); before = before })
-      ∙ ap (λ (o : Outcome). found 0 i (stretchOf region c) (o .buffer ++ drop (c .a) out)) gives
+      first-named s b (record { below = h .below; itself = decodes-exactly n region out c .1 (h .fit, (h .sixteen, ap (λ (o : Reading). o .number) gives)); before = before })
+      ∙ ap (λ (o : Reading). found 0 i (stretchOf region c) (o .buffer ++ drop (c .a) out) (o .noise)) gives
     where
       c : Candidate
       c = candidateAt list i
@@ -383,5 +400,5 @@ module _ (n : ℕ) (region : List ℤ) (list out : List ℕ) where
       front-size : length (take (c .a) out) ≡ c .a
       front-size = length-take-le (c .a) out (omega (arith, accepted-exactly (c .a) (108 * c .level) .0 (h .numbers) .high))
 
-      gives : tried n region out c ≡ record { number = 0; place = 0; buffer = payload }
+      gives : tried n region out c ≡ record { number = 0; place = 0; buffer = payload; noise = 0 }
       gives = promise3 .decodes (numbersOf n c) payload out′ (h .numbers) (h .input) (h .output) (stretchOf region c) (take (c .a) out) (h .clean) front-size

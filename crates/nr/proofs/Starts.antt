@@ -11,11 +11,12 @@ use lib.ListN.{getD, take}
 use Rattle.nr.specs.declared.Numbers.{Numbers}
 use Rattle.nr.specs.Rows.{bit, first}
 use Rattle.nr.specs.Numbers.{K}
-use Rattle.nr.specs.Answer.{refusalOf, outcome}
-use Rattle.nr.specs.Construction.{layout}
+use Rattle.nr.specs.Answer.{refusalOf, outcome, reading, onDone}
+use Rattle.nr.specs.Construction.{Layout, layout}
 use Rattle.nr.specs.Scrambling.{next2, step1, step2, after, gold, cInit}
+use Rattle.nr.specs.Noise.{noiseCount}
 use Rattle.nr.specs.Coding.{coded, badByte, codingFor, coding}
-use Rattle.nr.specs.Decoding.{received, orParity, badSoft, decodingFor, decoding}
+use Rattle.nr.specs.Decoding.{received, orParity, badSoft, noiseOf, decodingFor, decoding}
 use Rattle.nr.proofs.Words.{bit-le, bit-shr, same-bits}
 use Rattle.nr.proofs.Scrambling.{next2-bit, after2-lt, x1, x2, x2-starts, terms-at}
 
@@ -63,11 +64,13 @@ module _ (s : Numbers) (q r : ℕ) (e : q % 2 ^ 15 ≡ r % 2 ^ 15) where
       (coded (layout (K (s .a)) (s .e)) (s .e) (s .rnti) start payload) out) same-start
 
   pub decodes-alike : (soft : List ℤ) (out : List ℕ) → decoding (under s q) soft out ≡ decoding (under s r) soft out
-  unfolding decodingFor decoding
+  unfolding noiseOf decodingFor decoding
   decodes-alike soft out =
       ap (λ (start : ℕ).
-      let b : List ℕ = received (layout (K (s .a)) (s .e)) (s .e) (s .rnti) start soft in
-      outcome (orParity (refusalOf (s .a) (s .e) badSoft soft (s .e) out (s .a)) (s .a) b) (first badSoft soft) (take (s .a) b) out) same-start
+      let l : Layout = layout (K (s .a)) (s .e) in
+      let b : List ℕ = received l (s .e) (s .rnti) start soft in
+      let i : ℕ = orParity (refusalOf (s .a) (s .e) badSoft soft (s .e) out (s .a)) (s .a) b in
+      reading (outcome i (first badSoft soft) (take (s .a) b) out) (onDone i (noiseCount soft (coded l (s .e) (s .rnti) start (take (s .a) b))))) same-start
 
 -- ---- and nobody else: a sequence tells its start
 

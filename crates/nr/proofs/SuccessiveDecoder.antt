@@ -1,7 +1,7 @@
 -- The successive decoder, once for every n: it finds the word of every noiseless row, with positions that were never sent;
 -- and what it gives on any row.
 -- Assumes nothing.
-use Prim.Native.Nat.{ℕ, zero, suc, _+_, _^_, _≤_, _<_}
+use Prim.Native.Nat.{ℕ, zero, suc, _+_, _-_, _^_, _≤_, _<_}
 use native.Mathlib.Nat.{pow-suc, zero-min, suc-min-suc, suc-add, suc-ne-zero, suc-inj, not-suc-le-zero, le-of-suc-le-suc}
 use native.Mathlib.Omega.{arith}
 use mathlib.Core.Path.{_≡_, refl, sym, ap, _∙_, subst}
@@ -9,13 +9,14 @@ use mathlib.Core.Bool.{Bool, true, false}
 use mathlib.Core.List.{List, [], _∷_, _++_}
 use lib.Dec.{T}
 use lib.IntN.{ℤ, pos, negsuc, +ℤ-idr}
-use lib.ListN.{length, getD, take, drop, length-append, take-append-drop}
+use lib.ListN.{length, getD, take, drop, length-append, take-append-drop, List·getD-append}
 use lib.Seq.{getD-take, getD-drop}
 use Rattle.nr.specs.Rows.{xor, Bits}
 use Rattle.nr.specs.Transform.{transform}
 use Rattle.nr.specs.SuccessiveDecoder.{f, g, fs, gs, decide, successive}
+use Rattle.nr.proofs.Rows.{getD-behind}
 use Rattle.nr.proofs.Zip.{length-zipWith, getD-zipWith, bits-append, bits-take, bits-drop, bits-replicate}
-use Rattle.nr.proofs.Transform.{Each, lt-lo, lt-hi, length-lo, length-hi, lo, hi, len-lo, bits-transform, transform-lo, transform-hi, Down, down-lo, down-hi, down-half}
+use Rattle.nr.proofs.Transform.{Each, lt-lo, lt-hi, halves, length-lo, length-hi, lo, hi, len-lo, bits-transform, transform-lo, transform-hi, Down, down-lo, down-hi, down-half}
 
 -- ---- one place
 
@@ -186,3 +187,27 @@ bits-successive (suc n) marks row =
     let later : List ℤ = gs (transform n u₁) a b in
     bits-append u₁ (successive n (drop (2 ^ n) marks) later)
     (bits-successive n (take (2 ^ n) marks) (fs a b)) (bits-successive n (drop (2 ^ n) marks) later)
+
+-- with 0 at every frozen position
+pub frozen-successive : (n : ℕ) (marks : List ℕ) (row : List ℤ) → Frozen n marks (successive n marks row)
+unfolding successive decide
+frozen-successive zero marks row zero h e = ap (λ (m : ℕ). decide m (getD row 0 (pos 0))) e
+frozen-successive zero marks row (suc k) h e = absurd (not-suc-le-zero (le-of-suc-le-suc h))
+frozen-successive (suc n) marks row k h e =
+    let a : List ℤ = take (2 ^ n) row in
+    let b : List ℤ = drop (2 ^ n) row in
+    let u₁ : List ℕ = successive n (take (2 ^ n) marks) (fs a b) in
+    let later : List ℤ = gs (transform n u₁) a b in
+    let u₂ : List ℕ = successive n (drop (2 ^ n) marks) later in
+    let l : length u₁ ≡ 2 ^ n = length-successive n (take (2 ^ n) marks) (fs a b) in
+    halves n (λ k. getD marks k 0 ≡ 0 → getD (u₁ ++ u₂) k 0 ≡ 0)
+    (λ k h e.
+    List·getD-append u₁ u₂ 0 k (omega arith)
+    ∙ frozen-successive n (take (2 ^ n) marks) (fs a b) k h (getD-take (2 ^ n) marks k 0 h ∙ e))
+    (λ k h e.
+    getD-behind u₁ u₂ (2 ^ n) (2 ^ n + k) 0 l (omega arith) ∙ ap (λ (j : ℕ). getD u₂ j 0) (behind (2 ^ n) k)
+    ∙ frozen-successive n (drop (2 ^ n) marks) later k h (getD-drop (2 ^ n) marks k 0 ∙ e))
+    k h e
+  where
+    behind : (m k : ℕ) → m + k - m ≡ k
+    behind m k = omega arith

@@ -16,6 +16,12 @@ module _ {A B C : Type 0} (h : A → B → C) where
   length-zipWith (x ∷ a) (y ∷ b) zero e e′ = absurd (suc-ne-zero (length a) e)
   length-zipWith (x ∷ a) (y ∷ b) (suc n) e e′ = ap suc (length-zipWith a b n (suc-inj e) (suc-inj e′))
 
+  pub length-zipWith-le : (a : List A) (b : List B) → length (zipWith h a b) ≤ length a
+  unfolding zipWith
+  length-zipWith-le [] b = omega arith
+  length-zipWith-le (x ∷ a) [] = omega arith
+  length-zipWith-le (x ∷ a) (y ∷ b) = omega (arith, length-zipWith-le a b)
+
   pub getD-zipWith : (a : List A) (b : List B) (k : ℕ) (x : A) (y : B) (z : C) → k < length a → k < length b
       → getD (zipWith h a b) k z ≡ h (getD a k x) (getD b k y)
   unfolding zipWith

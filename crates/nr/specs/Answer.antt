@@ -73,3 +73,18 @@ outcome (suc i) at new old = record { number = suc i; place = cond (eqb (suc i) 
 -- an answer of the code with the buffer that it leaves, as an outcome
 unfoldable pub given : Answer → List ℕ → Outcome
 given r buffer = record { number = number r; place = placeOf r; buffer = buffer }
+
+-- what a call that decodes gives: the same, and the noise count
+pub record Reading : Type 0 where
+  pub number : ℕ
+  pub place : ℕ
+  pub buffer : List ℕ
+  pub noise : ℕ
+
+abbrev pub reading : Outcome → ℕ → Reading
+reading o noise = record { number = o .number; place = o .place; buffer = o .buffer; noise = noise }
+
+-- by the number: a count stands with 0, and is 0 with every other
+unfoldable pub onDone : ℕ → ℕ → ℕ
+onDone zero noise = noise
+onDone (suc i) noise = 0

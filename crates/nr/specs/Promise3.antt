@@ -1,4 +1,5 @@
--- Promise 3: coding gives 0, and from every noiseless row decoding under the same five numbers gives 0 and exactly that payload.
+-- Promise 3: coding gives 0, and from every noiseless row decoding under the same five numbers gives 0, exactly that payload and
+-- the noise count 0.
 -- With what document 01, "The job and its borders", says of accepted numbers, payloads and noiseless rows.
 -- The statement; its proof is `promise3` of proofs/Promise3.antt.
 -- Assumes nothing.
@@ -38,7 +39,7 @@ pub record Promise3 : Type 0 where
       → coding s payload out .number ≡ 0
   pub decodes : (s : Numbers) (payload out : List ℕ) → Accepted s → Payload s payload → length out ≡ s .e
       → (soft : List ℤ) (out′ : List ℕ) → Noiseless s (coding s payload out .buffer) soft → length out′ ≡ s .a
-      → decoding s soft out′ ≡ record { number = 0; place = 0; buffer = payload }
+      → decoding s soft out′ ≡ record { number = 0; place = 0; buffer = payload; noise = 0 }
 
 -- The hypotheses can be met: under all accepted numbers there is a payload, and for each payload a noiseless row.
 pub record HypothesesMet : Type 0 where

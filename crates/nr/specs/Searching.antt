@@ -11,7 +11,7 @@ use lib.ListN.{length, getD, take, drop}
 use Rattle.nr.specs.declared.Numbers.{Numbers}
 use Rattle.nr.specs.declared.Candidate.{Candidate}
 use Rattle.nr.specs.Rows.{count, has, first}
-use Rattle.nr.specs.Answer.{firstOf, Outcome}
+use Rattle.nr.specs.Answer.{firstOf, Reading}
 use Rattle.nr.specs.Decoding.{decoding}
 
 -- the aggregation levels
@@ -41,7 +41,7 @@ abbrev pub numbersOf : ℕ → Candidate → Numbers
 numbersOf n c = record { a = c .a; e = 108 * c .level; rnti = c .rnti; «n_id» = n; «n_rnti» = c .«n_rnti» }
 
 -- what decoding makes of its row, with the front of the payload buffer
-unfoldable pub tried : ℕ → List ℤ → List ℕ → Candidate → Outcome
+unfoldable pub tried : ℕ → List ℤ → List ℕ → Candidate → Reading
 tried n region out c = decoding (numbersOf n c) (stretchOf region c) (take (c .a) out)
 
 -- its RNTI and its n_RNTI have 16 bits, as those of the other calls
@@ -53,29 +53,35 @@ unfoldable pub decodes : ℕ → List ℤ → List ℕ → Candidate → Bool
 decodes n region out c =
     fits (length region / 108) (c .first) (c .level) && (sixteenBits c && eqb (tried n region out c .number) 0)
 
--- what the search gives: the number, the candidate that it names, that one's stretch of the region, and what the payload buffer
--- then holds
+-- what the search gives: the number, the candidate that it names, that one's stretch of the region, what the payload buffer then
+-- holds, and that one's noise count
 pub record Found : Type 0 where
   pub number : ℕ
   pub candidate : ℕ
   pub stretch : List ℤ
   pub buffer : List ℕ
+  pub noise : ℕ
 
-abbrev pub found : ℕ → ℕ → List ℤ → List ℕ → Found
-found number candidate stretch buffer = record { number = number; candidate = candidate; stretch = stretch; buffer = buffer }
+abbrev pub found : ℕ → ℕ → List ℤ → List ℕ → ℕ → Found
+found number candidate stretch buffer noise = record { number = number; candidate = candidate; stretch = stretch; buffer = buffer; noise = noise }
+
+-- with every number but 0: nothing is named, nothing is counted, and the buffer is as it was
+abbrev pub unfound : ℕ → List ℕ → Found
+unfound number out = found number 0 [] out 0
 
 -- on 0: only the front of the buffer changes
 unfoldable pub accepted : ℕ → List ℤ → List ℕ → List ℕ → ℕ → Found
 accepted n region list out i =
     let c : Candidate = candidateAt list i in
-    found 0 i (stretchOf region c) (tried n region out c .buffer ++ drop (c .a) out)
+    let t : Reading = tried n region out c in
+    found 0 i (stretchOf region c) (t .buffer ++ drop (c .a) out) (t .noise)
 
 -- the first candidate that decodes; 8 where none does
 unfoldable pub searched : ℕ → List ℤ → List ℕ → List ℕ → Found
 searched n region list out =
     let size : ℕ = length list / 5 in
     let i : ℕ = first (λ i. decodes n region out (candidateAt list i)) (count 0 size) in
-    cond (ltb i size) (accepted n region list out i) (found 8 0 [] out)
+    cond (ltb i size) (accepted n region list out i) (unfound 8 out)
 
 -- so many entries are 0 to `most` whole groups of `size`
 abbrev pub whole : ℕ → ℕ → ℕ → Bool
@@ -87,7 +93,7 @@ searchRefusal region list out = firstOf 4 ((not (whole 108 64 region) || not (wh
 
 unfoldable pub orRefused : ℕ → List ℕ → Found → Found
 orRefused zero out f = f
-orRefused (suc i) out f = found (suc i) 0 [] out
+orRefused (suc i) out f = unfound (suc i) out
 
 -- the call
 unfoldable pub searching : ℕ → List ℤ → List ℕ → List ℕ → Found
