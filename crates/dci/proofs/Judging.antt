@@ -24,7 +24,6 @@ use Rattle.nr.proofs.Interleaver.{length-deinterleave, bits-deinterleave}
 use Rattle.nr.proofs.SuccessiveDecoder.{bits-successive}
 use Rattle.nr.proofs.Construction.{accepted, positions}
 use Rattle.rows.proofs.Parts.{front-back, front-room, front-size}
-use Rattle.dci.specs.Judged.{judged}
 
 -- what is asked of A, E and the output
 pub record Asked (s : Numbers) (out : List ℕ) : Type 0 where
@@ -113,12 +112,12 @@ module _ {s : Numbers} {soft : List ℤ} {out : List ℕ} (k : Back s soft out) 
       ∙ sym (ap (take (s .a)) b-is ∙ maskRnti-front (s .rnti) (s .a) c (omega (arith, length-c)) bits-c)
 
   module _ (t : Bool) (m : t ≡ parityMatches (length part - 24) (maskRnti (s .rnti) part)) where
-    matched : parityMatches (s .a) b ≡ t
+    pub matched : parityMatches (s .a) b ≡ t
     matched =
         let e : length part - 24 ≡ s .a = omega (arith, part-size, k .asked .size) in
         sym (m ∙ ap₂ (λ (A : ℕ) (x : List ℕ). parityMatches A (maskRnti (s .rnti) x)) e part-is ∙ ap (parityMatches (s .a)) (sym b-is))
 
     -- 0 and the payload, or 7 and the old buffer
-    pub gives : (r : Answer) (new : List ℕ) → given r new ≡ outcome (cond t 0 7) 0 (take (length out) whole) out → given r new ≡ judged s soft out
+    pub gives : (r : Answer) (new : List ℕ) → given r new ≡ outcome (cond t 0 7) 0 (take (length out) whole) out → given r new ≡ outcome (orParity 0 (s .a) b) 0 (take (s .a) b) out
     unfolding orParity
     gives r new q = q ∙ ap₂ (λ (u : Bool) (x : List ℕ). outcome (cond u 0 7) 0 x out) (sym matched) payload-is

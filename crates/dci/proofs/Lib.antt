@@ -3,4 +3,5 @@ pub mod Ranges
 pub mod Made
 pub mod Outcomes
 pub mod Judging
+pub mod Tallying
 pub mod Telling

@@ -4,7 +4,7 @@ use Prim.Native.Nat.{ℕ, zero, suc, _≤_, _<_}
 use native.Mathlib.Decide.{decLe}
 use native.Mathlib.Nat.{lt-of-not-le}
 use native.Mathlib.Omega.{arith}
-use mathlib.Core.Path.{_≡_, refl, sym, ap, _∙_}
+use mathlib.Core.Path.{_≡_, refl, sym, ap, ap₂, _∙_}
 use mathlib.Core.Bool.{Bool, true, false, not, cond}
 use mathlib.Core.List.{List, [], _∷_, _++_}
 use lib.Dec.{eqb, ltb}
@@ -16,14 +16,16 @@ use Rattle.nr.specs.declared.Answer.{Answer}
 use Rattle.nr.specs.declared.Answer.the-variants.{Done, BadEntry, ParityMismatch}
 use Rattle.nr.specs.Rows.{first, Bits, Within}
 use Rattle.nr.specs.Numbers.{K}
-use Rattle.nr.specs.Answer.{firstOf, tests, number, placeOf, refusalOf, outcome, given}
-use Rattle.nr.specs.Construction.{layout}
+use Rattle.nr.specs.Answer.{firstOf, tests, number, placeOf, refusalOf, Outcome, outcome, given, Reading, reading, onDone}
+use Rattle.nr.specs.Construction.{Layout, layout}
 use Rattle.nr.specs.Parity.{parityMatches}
 use Rattle.nr.specs.Scrambling.{cInit}
 use Rattle.nr.specs.Coding.{coded, badByte, codingFor, coding}
-use Rattle.nr.specs.Decoding.{received, orParity, badSoft, decodingFor, decoding}
+use Rattle.nr.specs.Decoding.{received, orParity, badSoft, noiseOf, decodingFor, decoding}
 use Rattle.nr.proofs.Chains.{ahead, behind, at-most}
 use Rattle.nr.proofs.Refusals.{Passes, passes-exactly, before-first}
+use Rattle.nr.proofs.Promise1.{outcome-number}
+use Rattle.nr.proofs.Recoding.{on-other}
 use Rattle.checks.specs.Checks.{sizeRefusal, Says}
 use Rattle.dci.specs.Judged.{judged}
 
@@ -169,37 +171,58 @@ placeless A b new old at at′ = go (parityMatches A b)
     go true = refl
     go false = refl
 
+-- a refused call counts nothing
+quiet : (r : Answer) (j at count : ℕ) (new old : List ℕ) → given r old ≡ outcome j at new old → (number r ≡ 0 → ⊥)
+    → reading (given r old) 0 ≡ reading (outcome j at new old) (onDone j count)
+unfolding given
+quiet r j at count new old e n = ap₂ reading e (sym (on-other j count (λ z. n (ap (λ (o : Outcome). o .number) e ∙ outcome-number j at new old ∙ z))))
+
 module _ (s : Numbers) (soft : List ℤ) (out : List ℕ) where
+  abbrev l : Layout
+  l = layout (K (s .a)) (s .e)
+
   abbrev b : List ℕ
-  b = received (layout (K (s .a)) (s .e)) (s .e) (s .rnti) (cInit s) soft
+  b = received l (s .e) (s .rnti) (cInit s) soft
+
+  abbrev payload : List ℕ
+  payload = take (s .a) b
+
+  abbrev at : ℕ
+  at = first badSoft soft
 
   -- decoding, by its number
-  decoding-is : decoding s soft out ≡ outcome (orParity (refusalOf (s .a) (s .e) badSoft soft (s .e) out (s .a)) (s .a) b) (first badSoft soft) (take (s .a) b) out
+  abbrev by : ℕ → Reading
+  by i = reading (outcome i at payload out) (onDone i (noiseOf l s soft payload))
+
+  decoding-is : decoding s soft out ≡ by (orParity (refusalOf (s .a) (s .e) badSoft soft (s .e) out (s .a)) (s .a) b)
   unfolding decoding decodingFor
   decoding-is = refl
 
   -- where all has been checked the parity decides
   pub judged-decoding : Passes (s .a) (s .e) badSoft soft (s .e) out (s .a) → judged s soft out ≡ decoding s soft out
   judged-decoding p =
-      placeless (s .a) b (take (s .a) b) out 0 (first badSoft soft)
-      ∙ ap (λ (i : ℕ). outcome (orParity i (s .a) b) (first badSoft soft) (take (s .a) b) out) (sym (passes-exactly (s .a) (s .e) badSoft soft (s .e) out (s .a) .1 p))
+      ap (λ (o : Outcome). reading o (onDone (orParity 0 (s .a) b) (noiseOf l s soft payload))) (placeless (s .a) b payload out 0 at)
+      ∙ ap (λ (i : ℕ). by (orParity i (s .a) b)) (sym (passes-exactly (s .a) (s .e) badSoft soft (s .e) out (s .a) .1 p))
       ∙ sym decoding-is
 
   module _ (r : Answer) (y : Says (sizeRefusal (s .a) (s .e) (length soft) (s .e) (length out) (s .a)) r) where
-    pub decoding-sizes : (number r ≡ 0 → ⊥) → given r out ≡ decoding s soft out
+    pub decoding-sizes : (number r ≡ 0 → ⊥) → reading (given r out) 0 ≡ decoding s soft out
     decoding-sizes n =
-        size-refused badSoft (s .a) (s .e) soft (s .e) out (s .a) (λ i. orParity i (s .a) b) (parity-keeps (s .a) b) (first badSoft soft) (take (s .a) b) r y n
+        quiet r _ at (noiseOf l s soft payload) payload out
+        (size-refused badSoft (s .a) (s .e) soft (s .e) out (s .a) (λ i. orParity i (s .a) b) (parity-keeps (s .a) b) at payload r y n) n
         ∙ sym decoding-is
 
     module _ (e : r ≡ Done) where
-      pub decoding-entry : (k : ℕ) → k ≡ first badSoft soft → k < length soft → given (BadEntry k) out ≡ decoding s soft out
-      decoding-entry k q l =
-          entry-refused badSoft (s .a) (s .e) soft (s .e) out (s .a) r y e (λ i. orParity i (s .a) b) (parity-keeps (s .a) b) (take (s .a) b) k q l
+      pub decoding-entry : (k : ℕ) → k ≡ first badSoft soft → k < length soft → reading (given (BadEntry k) out) 0 ≡ decoding s soft out
+      unfolding number
+      decoding-entry k q h =
+          quiet (BadEntry k) _ at (noiseOf l s soft payload) payload out
+          (entry-refused badSoft (s .a) (s .e) soft (s .e) out (s .a) r y e (λ i. orParity i (s .a) b) (parity-keeps (s .a) b) payload k q h) (λ z. omega arith)
           ∙ sym decoding-is
 
-      module _ (l : length soft ≤ first badSoft soft) where
+      module _ (h : length soft ≤ first badSoft soft) where
         pub decoding-passes : Passes (s .a) (s .e) badSoft soft (s .e) out (s .a)
-        decoding-passes = passes badSoft (s .a) (s .e) soft (s .e) out (s .a) r y e l
+        decoding-passes = passes badSoft (s .a) (s .e) soft (s .e) out (s .a) r y e h
 
-        pub decoding-judged : (r′ : Answer) (new : List ℕ) → given r′ new ≡ judged s soft out → given r′ new ≡ decoding s soft out
-        decoding-judged r′ new q = q ∙ judged-decoding decoding-passes
+        pub decoding-judged : {found : Reading} → found ≡ judged s soft out → found ≡ decoding s soft out
+        decoding-judged q = q ∙ judged-decoding decoding-passes

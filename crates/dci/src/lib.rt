@@ -5,17 +5,20 @@ use nr::Numbers;
 use nr::RateMatching;
 ghost use mathlib.Core.Path.{_≡_};
 ghost use mathlib.Core.Bool.{cond};
+ghost use Prim.Native.Nat.{_≤_, _^_};
 ghost use lib.ListN.{length};
-ghost use Rattle.nr.specs.Rows.{Bits, Within};
+ghost use Rattle.nr.specs.Rows.{xors, Bits, Within};
 ghost use Rattle.nr.specs.Numbers.{K};
-ghost use Rattle.nr.specs.Answer.{refusal, outcome, given};
+ghost use Rattle.nr.specs.Answer.{refusal, outcome, given, reading, onDone};
 ghost use Rattle.nr.specs.Construction.{layout};
+ghost use Rattle.nr.specs.RateMatching.{select, Fits};
 ghost use Rattle.nr.specs.Scrambling.{gold, cInit};
+ghost use Rattle.nr.specs.Noise.{noiseCount};
 ghost use Rattle.nr.specs.Coding.{coded, coding};
 ghost use Rattle.nr.specs.Decoding.{maskedRow, decoding};
 ghost use Rattle.nr.specs.Describing.{describing};
 ghost use Rattle.construction.specs.Shapes.{Lays};
-ghost use Rattle.dci.specs.Judged.{judged};
+ghost use Rattle.dci.specs.Judged.{decidedWord, judged};
 
 // The E scrambled bits of a payload of A bits.
 fn write(numbers: Numbers, payload: &[u8], out: &mut [u8])
@@ -50,23 +53,32 @@ pub fn encode(numbers: Numbers, payload: &[u8], out: &mut [u8]) -> Answer
     Answer::Done
 }
 
-// What decoding gives back.
+// What decoding gives back: the answer, and the noise count.
 pub struct Decoded {
     pub answer: Answer,
+    pub noise: u32,
 }
 
-// The row of payload and parity that E soft values give, the RNTI still on it. The code for A and E and the scrambling sequence
-// are handed in: a caller with many rows makes them once.
-fn read(numbers: Numbers, code: Layout, sequence: &[u8], soft: &[i32], row: &mut [u8])
+// The row of payload and parity that E soft values give, the RNTI still on it, and the code word that they are decided for. The code
+// for A and E and the scrambling sequence are handed in: a caller with many rows makes them once.
+fn read(
+    numbers: Numbers,
+    code: Layout,
+    sequence: &[u8],
+    soft: &[i32],
+    row: &mut [u8],
+    word: &mut [u8],
+)
     requires { ⌜ (refusal (numbers .a) (numbers .e) ≡ 0) × (length (now soft) ≡ numbers .e) × (length (now row) ≡ K (numbers .a)) × Within 127 (now soft) ⌝ }
-    requires { ⌜ Lays (layout (K (numbers .a)) (numbers .e)) code × (length (now sequence) ≡ numbers .e) ⌝ }
+    requires { ⌜ Lays (layout (K (numbers .a)) (numbers .e)) code × (length (now sequence) ≡ numbers .e) × (length (now word) ≡ 2 ^ (code .n)) ⌝ }
     ensures { λ _. ⌜ now (row .exit) ≡ maskedRow (layout (K (numbers .a)) (numbers .e)) (numbers .e) (now (sequence .entry)) (now (soft .entry)) ⌝ }
+    ensures { λ _. ⌜ now (word .exit) ≡ decidedWord (layout (K (numbers .a)) (numbers .e)) (numbers .e) (now (sequence .entry)) (now (soft .entry)) ⌝ }
 {
     let n = code.n;
     let kind = code.kind;
     let positions = code.positions;
     let k = row.len();
-    receiver::receive(n, kind, &positions[..k], sequence, soft, row);
+    receiver::receive(n, kind, &positions[..k], sequence, soft, row, word);
 }
 
 // The payload with 0 where the parity matched; else 7, and the output stays as it is.
@@ -81,30 +93,63 @@ fn give(matched: bool, payload: &[u8], out: &mut [u8]) -> Answer
     Answer::Done
 }
 
-// The payload that the soft values hold, if its parity matches. The caller has made every check, the code and the sequence.
+// The noise count where the parity matched: the decided code word is then that of the payload, so that nothing is coded again. Else 0.
+fn tally(
+    accepted: bool,
+    kind: RateMatching,
+    n: usize,
+    word: &[u8],
+    sequence: &[u8],
+    soft: &[i32],
+) -> u32
+    requires { ⌜ (5 ≤ n) × (n ≤ 9) × Fits kind (2 ^ n) (length (now soft)) × (length (now soft) ≤ 1728) ⌝ }
+    requires { ⌜ (length (now word) ≡ 2 ^ n) × (length (now sequence) ≡ length (now soft)) × Bits (now word) × Bits (now sequence) ⌝ }
+    ensures { λ r. ⌜ r ≡ onDone (cond accepted 0 7) (noiseCount (now (soft .entry)) (xors (select kind (2 ^ n) (length (now (soft .entry))) (now (word .entry))) (now (sequence .entry)))) ⌝ }
+{
+    if !accepted {
+        return 0;
+    }
+    noise::count(kind, n, word, sequence, soft)
+}
+
+// The payload that the soft values hold, if its parity matches, and how noisy they are. The caller has made every check, the code and
+// the sequence.
 pub fn accept(
     numbers: Numbers,
     code: Layout,
     sequence: &[u8],
     soft: &[i32],
     out: &mut [u8],
-) -> Answer
+) -> Decoded
     requires { ⌜ (refusal (numbers .a) (numbers .e) ≡ 0) × (length (now soft) ≡ numbers .e) × (length (now out) ≡ numbers .a) × Within 127 (now soft) ⌝ }
     requires { ⌜ Lays (layout (K (numbers .a)) (numbers .e)) code × (now sequence ≡ gold (cInit numbers) (numbers .e)) ⌝ }
-    ensures { λ r. ⌜ given r (now (out .exit)) ≡ judged numbers (now (soft .entry)) (now (out .entry)) ⌝ }
+    ensures { λ r. ⌜ reading (given (r .answer) (now (out .exit))) (r .noise) ≡ judged numbers (now (soft .entry)) (now (out .entry)) ⌝ }
 {
+    let n = code.n;
+    let kind = code.kind;
     let size = out.len();
     let k = size + 24;
+    let len = 1 << n;
     let mut row = [0u8; 164];
-    read(numbers, code, sequence, soft, &mut row[..k]);
+    let mut word = [0u8; 512];
+    read(
+        numbers,
+        code,
+        sequence,
+        soft,
+        &mut row[..k],
+        &mut word[..len],
+    );
     let matched = parity::matches(&row[..k], numbers.rnti);
-    give(matched, &row[..size], out)
+    let answer = give(matched, &row[..size], out);
+    let noise = tally(matched, kind, n, &word[..len], sequence, soft);
+    Decoded { answer, noise }
 }
 
 // The same, with a code and a sequence of its own.
-fn fresh(numbers: Numbers, soft: &[i32], out: &mut [u8]) -> Answer
+fn fresh(numbers: Numbers, soft: &[i32], out: &mut [u8]) -> Decoded
     requires { ⌜ (refusal (numbers .a) (numbers .e) ≡ 0) × (length (now soft) ≡ numbers .e) × (length (now out) ≡ numbers .a) × Within 127 (now soft) ⌝ }
-    ensures { λ r. ⌜ given r (now (out .exit)) ≡ judged numbers (now (soft .entry)) (now (out .entry)) ⌝ }
+    ensures { λ r. ⌜ reading (given (r .answer) (now (out .exit))) (r .noise) ≡ judged numbers (now (soft .entry)) (now (out .entry)) ⌝ }
 {
     let l = construction::construct(numbers.a, numbers.e);
     let e = soft.len();
@@ -114,25 +159,25 @@ fn fresh(numbers: Numbers, soft: &[i32], out: &mut [u8]) -> Answer
     accept(numbers, l, &terms[..e], soft, out)
 }
 
-// Decodes E soft values into a payload of A bits, or answers with the first number of 1 to 7 that applies and leaves the output
-// as it is.
+// Decodes E soft values into a payload of A bits, and counts those of the wrong sign for it; or answers with the first number of 1 to
+// 7 that applies and leaves the output as it is.
 pub fn decode(numbers: Numbers, soft: &[i32], out: &mut [u8]) -> Decoded
-    ensures { λ r. ⌜ given (r .answer) (now (out .exit)) ≡ decoding numbers (now (soft .entry)) (now (out .entry)) ⌝ }
+    ensures { λ r. ⌜ reading (given (r .answer) (now (out .exit))) (r .noise) ≡ decoding numbers (now (soft .entry)) (now (out .entry)) ⌝ }
 {
     let a = numbers.a;
     let e = numbers.e;
     let answer = checks::check_sizes(a, e, soft.len(), e, out.len(), a);
     let Answer::Done = answer else {
-        return Decoded { answer };
+        return Decoded { answer, noise: 0 };
     };
     let bad = checks::first_outside(soft, -127, 127);
     if bad < soft.len() {
         return Decoded {
             answer: Answer::BadEntry(bad),
+            noise: 0,
         };
     }
-    let answer = fresh(numbers, soft, out);
-    Decoded { answer }
+    fresh(numbers, soft, out)
 }
 
 // What each of the positions 0..511 of the code for A and E is for, or the first number of 1, 2, 3 and 5 that applies, and the

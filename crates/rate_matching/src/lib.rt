@@ -95,8 +95,18 @@ fn repeat(y: &[u8], out: &mut [u8])
     rows::copy(&y[..rest], &mut out[at..]);
 }
 
+// The code word d in sub-block order, by the plain loop: `select` is compiled into the coder, and would not be if it had a second
+// caller.
+pub fn interleave(n: usize, d: &[u8], y: &mut [u8])
+    requires { ⌜ (5 ≤ n) × (n ≤ 9) × (length (now d) ≡ 2 ^ n) × (length (now y) ≡ 2 ^ n) ⌝ }
+    ensures { λ _. ⌜ now (y .exit) ≡ subBlocks (2 ^ n) (now (d .entry)) ⌝ }
+{
+    let blocks = SUB_BLOCKS;
+    copy_blocks(&blocks, n, d, y);
+}
+
 // The sent bits of y (5.4.1.2): over and over if they are more than y has, else y's end or its front.
-fn bit_selection(kind: RateMatching, y: &[u8], out: &mut [u8])
+pub fn bit_selection(kind: RateMatching, y: &[u8], out: &mut [u8])
     requires { ⌜ (0 < length (now y)) × Fits kind (length (now y)) (length (now out)) ⌝ }
     ensures { λ _. ⌜ now (out .exit) ≡ entries (map (selected kind (length (now (y .entry))) (length (now (out .entry)))) (count 0 (length (now (out .entry))))) (now (y .entry)) ⌝ }
 {

@@ -10,7 +10,7 @@ use lib.Seq.{length-take-le}
 use borrow.Author.Tests.{le-ltb}
 use Rattle.nr.specs.declared.Numbers.{Numbers}
 use Rattle.nr.specs.declared.Answer.{Answer}
-use Rattle.nr.specs.Answer.{Outcome, given}
+use Rattle.nr.specs.Answer.{Reading, given, reading}
 use Rattle.nr.specs.Scrambling.{cInit}
 use Rattle.nr.specs.Decoding.{badSoft}
 use Rattle.nr.proofs.Refusals.{Passes, accepted-exactly, first-none}
@@ -41,9 +41,9 @@ module _ {s : Numbers} {sequence : List ℕ} {row : List ℤ} {out : List ℕ} (
     entries = first-none badSoft row (pos 0) (λ k l. le-ltb 127 (natAbs (getD row k (pos 0))) (t .range k));
   }
 
-  pub attempted-is : (r : Answer) (new : List ℕ) → given r new ≡ judged s row (take (s .a) out)
-      → given r (new ++ drop (s .a) out) ≡ attempted s row out
+  pub attempted-is : (r : Answer) (noise : ℕ) (new : List ℕ) → reading (given r new) noise ≡ judged s row (take (s .a) out)
+      → reading (given r (new ++ drop (s .a) out)) noise ≡ attempted s row out
   unfolding given
-  attempted-is r new q =
-      ap (λ (o : Outcome). record { number = o .number; place = o .place; buffer = o .buffer ++ drop (s .a) out })
+  attempted-is r noise new q =
+      ap (λ (o : Reading). record { number = o .number; place = o .place; buffer = o .buffer ++ drop (s .a) out; noise = o .noise })
       (q ∙ judged-decoding s row (take (s .a) out) passes)

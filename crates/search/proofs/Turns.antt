@@ -7,7 +7,7 @@ use native.Mathlib.Omega.{arith}
 use mathlib.Core.Path.{_≡_, refl, sym, subst, ap, ap₂, _∙_}
 use mathlib.Core.Logic.{_≢_}
 use mathlib.Core.Bool.{Bool, true, false, cond}
-use mathlib.Core.List.{List, [], _++_}
+use mathlib.Core.List.{List, _++_}
 use lib.IntN.{ℤ, pos, negsuc, natAbs}
 use lib.ListN.{length, getD, take, drop, replicate, length-replicate, take-append-drop}
 use lib.Seq.{take-take}
@@ -19,10 +19,10 @@ use Rattle.nr.specs.declared.Answer.{Answer}
 use Rattle.nr.specs.declared.Numbers.{Numbers}
 use Rattle.nr.specs.declared.Candidate.{Candidate}
 use Rattle.nr.specs.Rows.{Within}
-use Rattle.nr.specs.Answer.{refusal, number, Outcome, given}
+use Rattle.nr.specs.Answer.{refusal, number, given, Reading, reading}
 use Rattle.nr.specs.Scrambling.{terms, gold, cInit}
 use Rattle.nr.specs.Decoding.{badSoft}
-use Rattle.nr.specs.Searching.{candidateAt, stretchOf, numbersOf, tried, decodes, Found, found, accepted, searchRefusal, searching, startOf}
+use Rattle.nr.specs.Searching.{candidateAt, stretchOf, numbersOf, tried, decodes, Found, found, unfound, accepted, searchRefusal, searching, startOf}
 use Rattle.nr.proofs.Tests.{fails}
 use Rattle.nr.proofs.Construction.{accepted as sized}
 use Rattle.nr.proofs.Refusals.{longest, accepted-exactly, first-none}
@@ -112,17 +112,21 @@ module _ {n : ℕ} {region : List ℤ} {list out₀ out : List ℕ} {i : ℕ} {c
 
   -- it was tried
   module _ (a : tryable (length region / 108) c ≡ true) {row : List ℤ} (row-is : row ≡ stretchOf region c) {s : Numbers} (s-is : s ≡ numbersOf n c)
-      (r : Answer) (new : List ℕ) (says : given r new ≡ attempted s row out) where
-    said : given r new ≡ attempted (numbersOf n c) (stretchOf region c) out₀
+      (r : Answer) (noise : ℕ) (new : List ℕ) (says : reading (given r new) noise ≡ attempted s row out) where
+    said : reading (given r new) noise ≡ attempted (numbersOf n c) (stretchOf region c) out₀
     said = says ∙ ap (λ (u : Numbers). attempted u row out) s-is ∙ ap₂ (attempted (numbersOf n c)) row-is (t .kept .same)
 
     number-is : number r ≡ tried n region out₀ c .number
     unfolding given tried
-    number-is = ap (λ (o : Outcome). o .number) said
+    number-is = ap (λ (o : Reading). o .number) said
 
     buffer-is : new ≡ tried n region out₀ c .buffer ++ drop (c .a) out₀
     unfolding given tried
-    buffer-is = ap (λ (o : Outcome). o .buffer) said
+    buffer-is = ap (λ (o : Reading). o .buffer) said
+
+    noise-is : noise ≡ tried n region out₀ c .noise
+    unfolding tried
+    noise-is = ap (λ (o : Reading). o .noise) said
 
     -- a number other than 0 puts the buffer back
     put-back : number r ≢ 0 → new ≡ out₀
@@ -137,35 +141,36 @@ module _ {n : ℕ} {region : List ℤ} {list out₀ out : List ℕ} {i : ℕ} {c
     skip-refused z = skip new (put-back z) (fails _ (λ e. z (number-is ∙ decodes-exactly n region out₀ c .0 e .1 .1)))
 
     pub found-it : number r ≡ 0 → 0 ≡ searchRefusal (length region) (length list) (length out₀)
-        → found 0 i row new ≡ searching n region list out₀
+        → found 0 i row new noise ≡ searching n region list out₀
     unfolding accepted
     found-it z s =
         let u = unrefused n region list out₀ (sym s) in
         let g = able (length region / 108) c a in
         let d : decodes n region out₀ c ≡ true = decodes-exactly n region out₀ c .1 (g .fits, (sixteen-exactly c .0 (g .sixteen), sym number-is ∙ z)) in
-        ap₂ (found 0 i) row-is buffer-is
-        ∙ ap (λ (d : Candidate). found 0 i (stretchOf region d) (tried n region out₀ d .buffer ++ drop (d .a) out₀)) (t .is)
+        ap₂ (λ (stretch : List ℤ) (buffer : List ℕ). found 0 i stretch buffer noise) row-is buffer-is
+        ∙ ap (found 0 i (stretchOf region c) (tried n region out₀ c .buffer ++ drop (c .a) out₀)) noise-is
+        ∙ ap (λ (d : Candidate). found 0 i (stretchOf region d) (tried n region out₀ d .buffer ++ drop (d .a) out₀) (tried n region out₀ d .noise)) (t .is)
         ∙ sym (first-named n region list out₀ (u .0) (u .1)
         (record { below = t .below; itself = subst (λ (d : Candidate). decodes n region out₀ d ≡ true) (t .is) d; before = t .kept .none }))
 
 pub found-none : {n : ℕ} {region : List ℤ} {list out₀ out : List ℕ} {i : ℕ} → Kept n region list out₀ out i → length list / 5 ≤ i
-    → 0 ≡ searchRefusal (length region) (length list) (length out₀) → found 8 0 [] out ≡ searching n region list out₀
+    → 0 ≡ searchRefusal (length region) (length list) (length out₀) → unfound 8 out ≡ searching n region list out₀
 found-none {n = n} {region = region} {list = list} {out₀ = out₀} k l s =
     let u = unrefused n region list out₀ (sym s) in
-    ap (found 8 0 []) (k .same) ∙ sym (none-named n region list out₀ (u .0) (u .1) (λ j h. k .none j (omega arith)))
+    ap (unfound 8) (k .same) ∙ sym (none-named n region list out₀ (u .0) (u .1) (λ j h. k .none j (omega arith)))
 
 -- ---- where the part starts
 
-pub no-start : (list : List ℕ) (f : Found) (i : ℕ) (out : List ℕ) → i ≢ 0 → found i 0 [] out ≡ f → startOf list f * 4 ≡ 0
+pub no-start : (list : List ℕ) (f : Found) (i : ℕ) (out : List ℕ) → i ≢ 0 → unfound i out ≡ f → startOf list f * 4 ≡ 0
 unfolding startOf
 no-start list f i out n e =
     ap (λ (g : Found). startOf list g * 4) (sym e)
     ∙ ap (λ (t : Bool). cond t (108 * candidateAt list 0 .first) 0 * 4) (ne-eqb i 0 n)
 
 pub start-at : {n : ℕ} {region : List ℤ} {list out₀ out : List ℕ} {i : ℕ} {c : Candidate} → Turn n region list out₀ out i c
-    → (f : Found) (part : List ℤ) (new : List ℕ) → found 0 i part new ≡ f → 108 * c .first * 4 ≡ startOf list f * 4
+    → (f : Found) (part : List ℤ) (new : List ℕ) (noise : ℕ) → found 0 i part new noise ≡ f → 108 * c .first * 4 ≡ startOf list f * 4
 unfolding startOf
-start-at {list = list} t f part new e =
+start-at {list = list} t f part new noise e =
     ap (λ (d : Candidate). 108 * d .first * 4) (t .is) ∙ ap (λ (g : Found). startOf list g * 4) e
 
 -- ---- what is kept between candidates: the sequence as far as it was made, and the code of the one before

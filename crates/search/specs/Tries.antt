@@ -8,7 +8,7 @@ use lib.ListN.{length, take, drop}
 use Rattle.nr.specs.declared.Numbers.{Numbers}
 use Rattle.nr.specs.Rows.{Within}
 use Rattle.nr.specs.Numbers.{K}
-use Rattle.nr.specs.Answer.{refusal, Outcome}
+use Rattle.nr.specs.Answer.{refusal, Reading}
 use Rattle.nr.specs.Construction.{layout}
 use Rattle.nr.specs.Scrambling.{gold, cInit}
 use Rattle.nr.specs.Decoding.{decoding}
@@ -33,7 +33,7 @@ pub record Tries (s : Numbers) (sequence : List ℕ) (row : List ℤ) (out : Lis
   pub output : length out ≡ 140
 
 -- what decoding makes of its row, in the whole payload buffer
-abbrev pub attempted : Numbers → List ℤ → List ℕ → Outcome
+abbrev pub attempted : Numbers → List ℤ → List ℕ → Reading
 attempted s row out =
-    let o : Outcome = decoding s row (take (s .a) out) in
-    record { number = o .number; place = o .place; buffer = o .buffer ++ drop (s .a) out }
+    let o : Reading = decoding s row (take (s .a) out) in
+    record { number = o .number; place = o .place; buffer = o .buffer ++ drop (s .a) out; noise = o .noise }

@@ -1,5 +1,6 @@
 // The search of a handset's candidates in a region of soft values: the first that decodes.
 use construction::Layout;
+use dci::Decoded;
 use nr::Answer;
 use nr::Candidate;
 use nr::Numbers;
@@ -10,7 +11,7 @@ ghost use mathlib.Core.Bool.{true};
 ghost use mathlib.Core.List.{[]};
 ghost use lib.ListN.{length};
 ghost use Rattle.nr.specs.Numbers.{K};
-ghost use Rattle.nr.specs.Answer.{refusal, given};
+ghost use Rattle.nr.specs.Answer.{refusal, given, reading};
 ghost use Rattle.nr.specs.Construction.{layout};
 ghost use Rattle.nr.specs.Scrambling.{cInit};
 ghost use Rattle.nr.specs.Searching.{numbersOf, sixteenBits, found, searching, startOf};
@@ -62,10 +63,10 @@ fn extend(before: Numbers, ready: usize, numbers: Numbers, sequence: &mut [u8]) 
 }
 
 // A candidate's row decoded into the front of the payload buffer.
-fn attempt(numbers: Numbers, code: Layout, sequence: &[u8], row: &[i32], out: &mut [u8]) -> Answer
+fn attempt(numbers: Numbers, code: Layout, sequence: &[u8], row: &[i32], out: &mut [u8]) -> Decoded
     requires { ⌜ Tries numbers (now sequence) (now row) (now out) ⌝ }
     requires { ⌜ Lays (layout (K (numbers .a)) (numbers .e)) code ⌝ }
-    ensures { λ r. ⌜ given r (now (out .exit)) ≡ attempted numbers (now (row .entry)) (now (out .entry)) ⌝ }
+    ensures { λ r. ⌜ reading (given (r .answer) (now (out .exit))) (r .noise) ≡ attempted numbers (now (row .entry)) (now (out .entry)) ⌝ }
 {
     let a = numbers.a as usize;
     let e = row.len();
@@ -94,19 +95,26 @@ fn no_numbers() -> Numbers
     }
 }
 
-// A number with no candidate, and an empty part, at the region's start.
-fn nothing<'a>(why: u64, region: &'a [i32], number: &mut u64, candidate: &mut usize) -> &'a [i32]
-    ensures { λ r. ⌜ (now r ≡ []) × (now (number .exit) ≡ why) × (now (candidate .exit) ≡ 0) × (r .ptr ≡ (region .entry .ptr .0, 0 + region .entry .ptr .1)) ⌝ }
+// A number with no candidate and no noise count, and an empty part, at the region's start.
+fn nothing<'a>(
+    why: u64,
+    region: &'a [i32],
+    number: &mut u64,
+    candidate: &mut usize,
+    noise: &mut u32,
+) -> &'a [i32]
+    ensures { λ r. ⌜ (now r ≡ []) × (now (number .exit) ≡ why) × (now (candidate .exit) ≡ 0) × (now (noise .exit) ≡ 0) × (r .ptr ≡ (region .entry .ptr .0, 0 + region .entry .ptr .1)) ⌝ }
 {
     *number = why;
     *candidate = 0;
+    *noise = 0;
     &region[0..0]
 }
 
 // Searches the candidates, five numbers each, in a region of CCEs of 108 soft values. The number is 0 where one decodes, with its
-// place in the list, its stretch of the region, and its payload at the start of the output; else 4 (lengths of the region and the
-// list), 5 (length of the output) or 8 (none decodes), with candidate 0, an empty stretch, and the output as it was. The stretch is
-// the caller's own: it stands where it does in the region, whose values have 4 bytes.
+// place in the list, its stretch of the region, its noise count, and its payload at the start of the output; else 4 (lengths of the
+// region and the list), 5 (length of the output) or 8 (none decodes), with candidate 0, an empty stretch, noise count 0, and the
+// output as it was. The stretch is the caller's own: it stands where it does in the region, whose values have 4 bytes.
 pub fn search<'a>(
     n_id: u16,
     region: &'a [i32],
@@ -114,13 +122,14 @@ pub fn search<'a>(
     out: &mut [u8],
     number: &mut u64,
     candidate: &mut usize,
+    noise: &mut u32,
 ) -> &'a [i32]
-    ensures is { λ r. ⌜ found (now (number .exit)) (now (candidate .exit)) (now r) (now (out .exit)) ≡ searching «n_id» (now (region .entry)) (now (list .entry)) (now (out .entry)) ⌝ }
+    ensures is { λ r. ⌜ found (now (number .exit)) (now (candidate .exit)) (now r) (now (out .exit)) (now (noise .exit)) ≡ searching «n_id» (now (region .entry)) (now (list .entry)) (now (out .entry)) ⌝ }
     ensures own { λ r. ⌜ r .ptr ≡ (region .entry .ptr .0, startOf (now (list .entry)) (searching «n_id» (now (region .entry)) (now (list .entry)) (now (out .entry))) * 4 + region .entry .ptr .1) ⌝ }
 {
     let refused = candidates::check_sizes(region.len(), list.len(), out.len());
     if refused != 0 {
-        return nothing(refused, region, number, candidate);
+        return nothing(refused, region, number, candidate, noise);
     }
     let mut sequence = [0u8; 1728];
     let mut ready = 0;
@@ -144,12 +153,14 @@ pub fn search<'a>(
         code = code_for(before, code, numbers);
         ready = extend(before, ready, numbers, &mut sequence);
         before = numbers;
-        let answer = attempt(numbers, code, &sequence, row, out);
+        let decoded = attempt(numbers, code, &sequence, row, out);
+        let answer = decoded.answer;
         if let Answer::Done = answer {
             *number = 0;
             *candidate = i;
+            *noise = decoded.noise;
             return row;
         }
     }
-    nothing(8, region, number, candidate)
+    nothing(8, region, number, candidate, noise)
 }

@@ -16,7 +16,7 @@ use Rattle.nr.specs.declared.Numbers.{Numbers}
 use Rattle.nr.specs.declared.Answer.{Answer}
 use Rattle.nr.specs.declared.Answer.the-variants.{Done, BadEntry}
 use Rattle.nr.specs.Rows.{first, Bits, Within}
-use Rattle.nr.specs.Answer.{firstOf, tests, number, Outcome, outcome, given}
+use Rattle.nr.specs.Answer.{firstOf, tests, number, Outcome, outcome, given, Reading, reading}
 use Rattle.nr.specs.SuccessiveDecoder.{negateIf, descramble}
 use Rattle.nr.specs.Coding.{badByte, coding}
 use Rattle.nr.specs.Decoding.{decoding}
@@ -38,11 +38,11 @@ use Rattle.dci.proofs.Outcomes.{five-refused, last-refused, last-decides, passe
 pub calls : (s : Numbers) (payload sent₀ sent : List ℕ) (r₁ : Answer) → Accepted s → Payload s payload → length sent₀ ≡ s .e
     → given r₁ sent ≡ coding s payload sent₀
     → (soft : List ℤ) → Noiseless s sent soft
-    → (out new : List ℕ) (r₂ : Answer) → length out ≡ s .a
-    → given r₂ new ≡ decoding s soft out
-    → (number r₁ ≡ 0) × (given r₂ new ≡ found payload)
+    → (out new : List ℕ) (r₂ : Answer) (noise : ℕ) → length out ≡ s .a
+    → reading (given r₂ new) noise ≡ decoding s soft out
+    → (number r₁ ≡ 0) × (reading (given r₂ new) noise ≡ found payload)
 unfolding given
-calls s payload sent₀ sent r₁ a p l q soft n out new r₂ l′ q′ = (
+calls s payload sent₀ sent r₁ a p l q soft n out new r₂ noise l′ q′ = (
   ap (λ (o : Outcome). o .number) q ∙ promise3 .codes s payload sent₀ a p l,
   q′ ∙ promise3 .decodes s payload sent₀ a p l soft out (subst (λ (x : List ℕ). Noiseless s x soft) (ap (λ (o : Outcome). o .buffer) q) n) l′,
 )
@@ -82,9 +82,8 @@ strengths-within s payload strengths out l k = elim (decLe (length strengths) k)
 
 -- from a row that was coded and signed, decoding finds the payload
 pub loop-found : (s : Numbers) (payload : List ℕ) (strengths : List ℤ) (out : List ℕ) → Loops s payload strengths out
-    → (soft : List ℤ) → soft ≡ signed s payload strengths → (r : Answer) (new : List ℕ) → given r new ≡ decoding s soft out
-    → given r new ≡ found payload
-loop-found s payload strengths out l soft e r new q =
+    → (soft : List ℤ) → soft ≡ signed s payload strengths → {got : Reading} → got ≡ decoding s soft out → got ≡ found payload
+loop-found s payload strengths out l soft e q =
     let sent₀ : List ℕ = replicate (s .e) 0 in
     let sent : List ℕ = coding s payload sent₀ .buffer in
     let ls : length sent₀ ≡ s .e = length-replicate (s .e) 0 in
@@ -94,6 +93,10 @@ loop-found s payload strengths out l soft e r new q =
     (subst (Noiseless s sent) (sym e) (signed-noiseless s sent (w .bits zero) strengths (w .length-is zero) (l .size) (l .strong))) (l .output)
 
 -- ---- from the answers of its two checks of sizes to the outcome
+
+-- a refused call counts nothing
+abbrev quiet : Outcome → Reading
+quiet o = reading o 0
 
 module _ (s : Numbers) (payload : List ℕ) (strengths : List ℤ) (out : List ℕ) where
   abbrev byte : ℕ
@@ -128,10 +131,10 @@ module _ (s : Numbers) (payload : List ℕ) (strengths : List ℤ) (out : List �
   first-applies false n = ahead 0 (pair-tests []) (q ∷ o ∷ bad ∷ []) n
 
   module _ (r₁ : Answer) (y₁ : Says (sizeRefusal (s .a) (s .e) (length payload) (s .a) 0 0) r₁) where
-    pub first-refused : (number r₁ ≡ 0 → ⊥) → given r₁ out ≡ looped s payload strengths out
+    pub first-refused : (number r₁ ≡ 0 → ⊥) → quiet (given r₁ out) ≡ looped s payload strengths out
     first-refused n =
-        five-refused (pair-tests (p ∷ false ∷ [])) false place payload out refl (λ i. i) (λ i. refl) r₁ y₁ n
-        ∙ sym (looped-is s payload strengths out ∙ ap (λ (i : ℕ). outcome i place payload out) (first-applies p (λ e. n (y₁ .number ∙ e))))
+        ap quiet (five-refused (pair-tests (p ∷ false ∷ [])) false place payload out refl (λ i. i) (λ i. refl) r₁ y₁ n)
+        ∙ sym (looped-is s payload strengths out ∙ ap (λ (i : ℕ). quiet (outcome i place payload out)) (first-applies p (λ e. n (y₁ .number ∙ e))))
 
     module _ (e₁ : r₁ ≡ Done) (r₂ : Answer) (y₂ : Says (sizeRefusal (s .a) (s .e) (length strengths) (s .e) (length out) (s .a)) r₂) where
       -- the payload's length is right: the second check's five tests and that of the entries are left
@@ -144,11 +147,11 @@ module _ (s : Numbers) (payload : List ℕ) (strengths : List ℤ) (out : List �
           let n = none 0 (pair-tests (p ∷ false ∷ [])) (sym (y₁ .number) ∙ ap number e₁) in
           ap (λ (t : Bool). firstOf 1 (pair-tests ((t || q) ∷ o ∷ bad ∷ []))) (n .1 .1 .1 .0)
 
-      looped-rest : outcome (firstOf 1 (sizes ++ (bad ∷ []))) place payload out ≡ looped s payload strengths out
-      looped-rest = sym (looped-is s payload strengths out ∙ ap (λ (i : ℕ). outcome i place payload out) rest)
+      looped-rest : quiet (outcome (firstOf 1 (sizes ++ (bad ∷ []))) place payload out) ≡ looped s payload strengths out
+      looped-rest = sym (looped-is s payload strengths out ∙ ap (λ (i : ℕ). quiet (outcome i place payload out)) rest)
 
-      pub second-refused : (number r₂ ≡ 0 → ⊥) → given r₂ out ≡ looped s payload strengths out
-      second-refused n = five-refused sizes bad place payload out refl (λ i. i) (λ i. refl) r₂ y₂ n ∙ looped-rest
+      pub second-refused : (number r₂ ≡ 0 → ⊥) → quiet (given r₂ out) ≡ looped s payload strengths out
+      second-refused n = ap quiet (five-refused sizes bad place payload out refl (λ i. i) (λ i. refl) r₂ y₂ n) ∙ looped-rest
 
       module _ (e₂ : r₂ ≡ Done) where
         none₂ : firstOf 1 sizes ≡ 0
@@ -157,14 +160,14 @@ module _ (s : Numbers) (payload : List ℕ) (strengths : List ℤ) (out : List �
 
         -- 6, at a place
         six : (x y : Bool) → ltb byte (length payload) ≡ x → ltb strength (length strengths) ≡ y → x || y ≡ true → (k : ℕ) → k ≡ cond x byte (s .a + strength)
-            → given (BadEntry k) out ≡ looped s payload strengths out
+            → quiet (given (BadEntry k) out) ≡ looped s payload strengths out
         six x y p q t k m =
-            last-refused sizes bad place payload out refl (λ i. i) (λ i. refl)
+            ap quiet (last-refused sizes bad place payload out refl (λ i. i) (λ i. refl)
             (last-decides sizes bad place payload out refl none₂ ∙ ap (λ (u : Bool). cond u 6 0) (ap₂ _||_ p q ∙ t)) k
-            (m ∙ ap (λ (u : Bool). cond u byte (s .a + strength)) (sym p))
+            (m ∙ ap (λ (u : Bool). cond u byte (s .a + strength)) (sym p)))
             ∙ looped-rest
 
-        pub byte-refused : (k : ℕ) → k ≡ byte → k < length payload → given (BadEntry k) out ≡ looped s payload strengths out
+        pub byte-refused : (k : ℕ) → k ≡ byte → k < length payload → quiet (given (BadEntry k) out) ≡ looped s payload strengths out
         byte-refused k m l =
             let h : byte < length payload = omega arith in
             six true (ltb strength (length strengths)) (lt-ltb byte (length payload) h) refl refl k m
@@ -183,7 +186,7 @@ module _ (s : Numbers) (payload : List ℕ) (strengths : List ℤ) (out : List �
           pub place-fits : (k : ℕ) → k < length strengths → length payload + k < 2000
           place-fits k l = omega (arith, payload-size, strengths-size, accepted (s .a) (s .e) pair .high, longest (s .e) (accepted (s .a) (s .e) pair .length))
 
-          pub strength-refused : (k : ℕ) → k ≡ strength → k < length strengths → given (BadEntry (length payload + k)) out ≡ looped s payload strengths out
+          pub strength-refused : (k : ℕ) → k ≡ strength → k < length strengths → quiet (given (BadEntry (length payload + k)) out) ≡ looped s payload strengths out
           strength-refused k m l =
               let h : strength < length strengths = omega arith in
               six false true (le-ltb byte (length payload) l₁) (lt-ltb strength (length strengths) h) refl (length payload + k) (ap₂ _+_ payload-size m)
@@ -201,5 +204,5 @@ module _ (s : Numbers) (payload : List ℕ) (strengths : List ℤ) (out : List �
                   output = p₂ .output-length;
                 }
 
-            pub loop-done : (r : Answer) (new : List ℕ) → given r new ≡ found payload → given r new ≡ looped s payload strengths out
-            loop-done r new q = q ∙ sym (looped-found s payload strengths out loops)
+            pub loop-done : {got : Reading} → got ≡ found payload → got ≡ looped s payload strengths out
+            loop-done q = q ∙ sym (looped-found s payload strengths out loops)

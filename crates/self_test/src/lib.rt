@@ -1,10 +1,11 @@
 // The self-test: a payload is coded and its noiseless row decoded. Promise 3, run.
+use dci::Decoded;
 use nr::Answer;
 use nr::Numbers;
 ghost use mathlib.Core.Path.{_≡_};
 ghost use Prim.Native.Nat.{_≤_};
 ghost use lib.ListN.{length};
-ghost use Rattle.nr.specs.Answer.{given};
+ghost use Rattle.nr.specs.Answer.{given, reading};
 ghost use Rattle.nr.specs.Loopback.{looped, Loops};
 ghost use Rattle.nr.specs.Rows.{Within};
 ghost use Rattle.self_test.specs.Loops.{signed, found};
@@ -21,40 +22,52 @@ fn sign(numbers: Numbers, payload: &[u8], strengths: &[i32], soft: &mut [i32])
 }
 
 // Codes the payload and decodes its noiseless row: promise 3, run.
-fn through(numbers: Numbers, payload: &[u8], strengths: &[i32], out: &mut [u8]) -> Answer
+fn through(numbers: Numbers, payload: &[u8], strengths: &[i32], out: &mut [u8]) -> Decoded
     requires { ⌜ Loops numbers (now payload) (now strengths) (now out) ⌝ }
-    ensures { λ r. ⌜ given r (now (out .exit)) ≡ found (now (payload .entry)) ⌝ }
+    ensures { λ r. ⌜ reading (given (r .answer) (now (out .exit))) (r .noise) ≡ found (now (payload .entry)) ⌝ }
 {
     let e = strengths.len();
     let mut soft = [0i32; 1728];
     sign(numbers, payload, strengths, &mut soft[..e]);
-    let decoded = dci::decode(numbers, &soft[..e], out);
-    decoded.answer
+    dci::decode(numbers, &soft[..e], out)
 }
 
 // The self-test: codes the payload, gives each coded bit its sign and the caller's strength, and decodes that row. It answers 0
-// with the payload in the output, or the first number of 1 to 6 that applies. Entries are counted through the payload and then
-// the strengths, which are 1 to 127.
-pub fn loopback(numbers: Numbers, payload: &[u8], strengths: &[i32], out: &mut [u8]) -> Answer
-    ensures { λ r. ⌜ given r (now (out .exit)) ≡ looped numbers (now (payload .entry)) (now (strengths .entry)) (now (out .entry)) ⌝ }
+// with the payload in the output, or the first number of 1 to 6 that applies; the noise count is 0. Entries are counted through the
+// payload and then the strengths, which are 1 to 127.
+pub fn loopback(numbers: Numbers, payload: &[u8], strengths: &[i32], out: &mut [u8]) -> Decoded
+    ensures { λ r. ⌜ reading (given (r .answer) (now (out .exit))) (r .noise) ≡ looped numbers (now (payload .entry)) (now (strengths .entry)) (now (out .entry)) ⌝ }
 {
     let a = numbers.a;
     let e = numbers.e;
     let first = checks::check_sizes(a, e, payload.len(), a, 0, 0);
     let Answer::Done = first else {
-        return first;
+        return Decoded {
+            answer: first,
+            noise: 0,
+        };
     };
     let second = checks::check_sizes(a, e, strengths.len(), e, out.len(), a);
     let Answer::Done = second else {
-        return second;
+        return Decoded {
+            answer: second,
+            noise: 0,
+        };
     };
     let byte = checks::first_bad(payload);
     if byte < payload.len() {
-        return Answer::BadEntry(byte);
+        return Decoded {
+            answer: Answer::BadEntry(byte),
+            noise: 0,
+        };
     }
     let strength = checks::first_outside(strengths, 1, 127);
     if strength < strengths.len() {
-        return Answer::BadEntry(payload.len() + strength);
+        let place = payload.len() + strength;
+        return Decoded {
+            answer: Answer::BadEntry(place),
+            noise: 0,
+        };
     }
     through(numbers, payload, strengths, out)
 }

@@ -311,16 +311,13 @@ module _ (n : ℕ) (few : n ≤ 9) (marks : List ℕ) (lm : length marks ≡ 2 ^
   power : 2 ^ n ≤ 2 ^ 9
   power = pow-mono {i = n} {j = 9} few
 
-  pub marks-fit : length marks ≤ 512
-  marks-fit = omega (arith, power)
-
-  pub top-ready : (work : List ℤ) (est sums : List ℕ) → length work ≡ 1024 → length est ≡ 2 ^ n → length sums ≡ length marks
+  pub top-ready : (work : List ℤ) (est sums : List ℕ) → length work ≡ 1024 → length est ≡ 2 ^ n → length sums ≡ 2 ^ n
       → Within (2 ^ 20) (rowOf (2 ^ n) work) → Ready n work marks est sums
   top-ready work est sums whole le ls small = record {
     few = few;
     whole = whole;
     marked = lm;
     bits = le;
-    words = ls ∙ lm;
+    words = ls;
     bound = bound-top (rowOf (2 ^ n) work) (2 ^ n) power small;
   }

@@ -90,13 +90,12 @@ fn decode(n: usize, work: &mut [i32; 1024], marks: &[u8], est: &mut [u8], sums: 
     }
 }
 
-// Decodes the row of 2^n values in `work`: the bits of all positions, 0 at the frozen ones.
-pub fn decode_row(n: usize, work: &mut [i32; 1024], marks: &[u8], est: &mut [u8])
-    requires { ⌜ (n ≤ 9) × (length (now work) ≡ 1024) × (length (now marks) ≡ 2 ^ n) × (length (now est) ≡ 2 ^ n) ⌝ }
+// Decodes the row of 2^n values in `work`: the bits of all positions, 0 at the frozen ones, and their code word.
+pub fn decode_row(n: usize, work: &mut [i32; 1024], marks: &[u8], est: &mut [u8], word: &mut [u8])
+    requires { ⌜ (n ≤ 9) × (length (now work) ≡ 1024) × (length (now marks) ≡ 2 ^ n) × (length (now est) ≡ 2 ^ n) × (length (now word) ≡ 2 ^ n) ⌝ }
     requires { ⌜ Within (2 ^ 20) (rowOf (2 ^ n) (now work)) ⌝ }
     ensures { λ _. ⌜ now (est .exit) ≡ successive n (now (marks .entry)) (rowOf (2 ^ n) (now (work .entry))) ⌝ }
+    ensures { λ _. ⌜ now (word .exit) ≡ transform n (successive n (now (marks .entry)) (rowOf (2 ^ n) (now (work .entry)))) ⌝ }
 {
-    let m = marks.len();
-    let mut sums = [0u8; 512];
-    decode(n, work, marks, est, &mut sums[..m]);
+    decode(n, work, marks, est, word);
 }

@@ -48,7 +48,7 @@ returns-3 c =
     let k = f .before .before .before in
     let a = k .before .before .args in
     decoding-judged (a .numbers) (a .soft .now) (a .out .now) (k .check-sizes .result) (k .check-sizes .ensures) (f .before .enum-told .given .1) (clean (v .before .before))
-    (v .fresh .result) (v .fresh .last .1 .1 .0) (v .fresh .ensures)
+    (v .fresh .ensures)
 
 check-sizes-requires : tie.Need-check-sizes-requires
 check-sizes-requires c κs = search needs

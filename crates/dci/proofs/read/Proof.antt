@@ -10,38 +10,40 @@ use Rattle.nr.specs.Decoding.{maskedRow}
 use Rattle.nr.proofs.Construction.{accepted}
 use Rattle.nr.proofs.Refusals.{longest}
 use Rattle.polar.specs.Codes.{code}
+use Rattle.dci.specs.Judged.{decidedWord}
 use Rattle.dci.proofs.Made.{code-is, enough, exact, low, high, fits, laid}
 use Rattle.dci.proofs.read.Statement.{statement}
 use Rattle.dci.proofs.read.Tie as tie
 
 returns : tie.Need-returns
 returns c =
-    let v = c .before .before in
-    let s = v .before .before .before .before .before .before in
+    let v = c .before .before .before .before in
+    let s = v .before .before .before .before .before .before .before .before in
     let a = s .args in
     let n = a .numbers in
     let l = a .code in
     let p = s .pre .0 in
     let same : code (l .n) (l .kind) (take (length (a .row .now)) (l .positions)) ≡ layout (K (n .a)) (n .e) =
-    rw (p .2) (code-is (n .a) (n .e) (p .0) l (s .pre .1 .0)) in
-    v .receive .ensures
-    ∙ ap₂ (λ (l : Layout) (e : ℕ). maskedRow l e (a .sequence .now) (a .soft .now)) same (p .1)
+    rw (p .2) (code-is (n .a) (n .e) (p .0) l (s .pre .1 .0)) in (
+      v .receive .ensures .0 ∙ ap₂ (λ (l : Layout) (e : ℕ). maskedRow l e (a .sequence .now) (a .soft .now)) same (p .1),
+      v .receive .ensures .1 ∙ ap₂ (λ (l : Layout) (e : ℕ). decidedWord l e (a .sequence .now) (a .soft .now)) same (p .1),
+    )
 
 array-share-prefix-positions : tie.Need-array-share-prefix-positions
 array-share-prefix-positions c =
-    let s = c .before .before .before in
+    let s = c .before .before .before .before in
     let a = s .args in
     subst (λ (m : ℕ). m ≤ length (a .code .positions)) (sym (s .pre .0 .2)) (enough (a .numbers .a) (a .numbers .e) (s .pre .0 .0) (a .code) (s .pre .1 .0))
 
 slice-aggregate-receive : tie.Need-slice-aggregate-receive
 slice-aggregate-receive c =
-    let s = c .before .before .before .before in
+    let s = c .before .before .before .before .before in
     let a = s .args in
     rw (s .pre .0 .2) (sym (exact (a .numbers .a) (a .numbers .e) (s .pre .0 .0) (a .code) (s .pre .1 .0)))
 
 receive-requires : tie.Need-receive-requires
 receive-requires c κs =
-    let s = c .before .before .before .before .before in
+    let s = c .before .before .before .before .before .before .before in
     let n = s .args .numbers in
     let l = s .args .code in
     let p = s .pre .0 in
@@ -57,11 +59,15 @@ receive-requires c κs =
         s .pre .1 .1 ∙ sym (p .1),
         rw (p .2) (laid (n .a) (n .e) (p .0) l e),
         p .2 ∙ sym (rw (p .2) (exact (n .a) (n .e) (p .0) l e)),
+        s .pre .1 .2,
       ),
     )
 
 same-length : tie.Need-same-length
 same-length c = search needs
+
+same-length-2 : tie.Need-same-length-2
+same-length-2 c = search needs
 
 pub read-spec : {M : Type 1} → statement M
 read-spec =
@@ -71,4 +77,5 @@ read-spec =
     slice-aggregate-receive
     receive-requires
     same-length
+    same-length-2
     returns)

@@ -9,6 +9,7 @@ use mathlib.Core.List.{List}
 use lib.IntN.{ℤ, pos}
 use lib.ListN.{length, take, drop, replicate}
 use lib.Pow.{pow-mono}
+use Rattle.nr.specs.Transform.{transform}
 use Rattle.nr.specs.SuccessiveDecoder.{descramble, codeRow, marks, successive}
 use Rattle.nr.specs.Decoding.{decided}
 use Rattle.nr.specs.Rows.{Within}
@@ -41,18 +42,18 @@ in-place s row kept is =
 returns : tie.Need-returns
 unfolding decided
 returns c =
-    let d = c .before .before in
-    let r = d .before .before .before .before in
-    let s = r .before .before .before .before .before in
-    d .decide-row .ensures
-    ∙ ap (successive (s .args .n) (marks (2 ^ s .args .n) (s .args .positions .now)))
-    (in-place s (r .code-row .last .1 .1 .1 .1 .0) (r .code-row .kept .1 .1 .1 .1 .0) (r .code-row .ensures))
+    let d = c .before .before .before .before in
+    let r = d .before .before .before .before .before in
+    let s = r .before .before .before .before .before .before in
+    let bits : List ℤ → List ℕ = successive (s .args .n) (marks (2 ^ s .args .n) (s .args .positions .now)) in
+    let placed = in-place s (r .code-row .last .1 .1 .1 .1 .0) (r .code-row .kept .1 .1 .1 .1 .0) (r .code-row .ensures) in
+    (d .decide-row .ensures .0 ∙ ap bits placed, d .decide-row .ensures .1 ∙ ap (λ (v : List ℤ). transform (s .args .n) (bits v)) placed)
 
 mul-code-row : tie.Need-mul-code-row
 mul-code-row c = search needs
 
 mul-work : tie.Need-mul-work
-mul-work c = omega (arith, room (c .before .before .before))
+mul-work c = omega (arith, room (c .before .before .before .before))
 
 sub-code-row : tie.Need-sub-code-row
 sub-code-row c = search needs
@@ -61,17 +62,17 @@ part-work-start : tie.Need-part-work-start
 part-work-start c = search needs
 
 part-work-end : tie.Need-part-work-end
-part-work-end c = room (c .before .before .before)
+part-work-end c = room (c .before .before .before .before)
 
 code-row-requires : tie.Need-code-row-requires
 code-row-requires c κs = search needs
 
 decide-row-requires : tie.Need-decide-row-requires
 decide-row-requires c κs =
-    let r = c .before .before .before in
-    let s = r .before .before .before .before .before in
+    let r = c .before .before .before .before in
+    let s = r .before .before .before .before .before .before in
     let a = s .args in (
-      (s .pre .0 .1, s .pre .1 .1, s .pre .1 .2),
+      (s .pre .0 .1, s .pre .1 .1, s .pre .1 .2, s .pre .1 .3),
       (
         whole (replicate 1024 (pos 0)) (r .code-row .last .1 .1 .1 .1 .0) (N s) (room s) (r .code-row .kept .1 .1 .1 .1 .0),
         subst (Within (2 ^ 20)) (sym (in-place s (r .code-row .last .1 .1 .1 .1 .0) (r .code-row .kept .1 .1 .1 .1 .0) (r .code-row .ensures)))
@@ -81,6 +82,9 @@ decide-row-requires c κs =
 
 same-length : tie.Need-same-length
 same-length c = search needs
+
+same-length-2 : tie.Need-same-length-2
+same-length-2 c = search needs
 
 pub decide-spec : {M : Type 1} → statement M
 decide-spec =
@@ -94,4 +98,5 @@ decide-spec =
     code-row-requires
     decide-row-requires
     same-length
+    same-length-2
     returns)

@@ -6,6 +6,7 @@ use mathlib.Core.Path.{_≡_, sym, subst, ap, _∙_}
 use mathlib.Core.List.{List, _++_}
 use lib.ListN.{length, take, drop, replicate}
 use lib.Pow.{pow-mono}
+use Rattle.nr.specs.Transform.{transform}
 use Rattle.nr.specs.SuccessiveDecoder.{marks, successive}
 use Rattle.rows.proofs.Parts.{take-replicate, front-back, front-room, front-size}
 use Rattle.polar.specs.Codes.{Positions}
@@ -25,14 +26,14 @@ size s = front-size (N s) 512 0 (room s)
 
 mark-requires : tie.Need-mark-requires
 mark-requires c κs =
-    let s = c .before .before .before in
+    let s = c .before .before .before .before in
     let ps = s .args .positions .now in (
       subst (λ (m : ℕ). Positions m ps) (sym (size s ∙ s .pre .0 .2)) (s .pre .0 .1),
       take-replicate (N s) 512 0 (room s) ∙ ap (λ (m : ℕ). replicate m 0) (sym (size s)),
     )
 
 abbrev start : tie.After-mark → tie.Start
-start c = c .before .before .before .before
+start c = c .before .before .before .before .before
 
 abbrev marked : tie.After-mark → List ℕ
 marked c = c .mark .last .1 .0
@@ -55,16 +56,17 @@ mark-behind c = c .before .before .before .before
 
 returns : tie.Need-returns
 returns c =
-    let d = c .before .before in
-    let m = mark-behind (d .before) in
+    let d = c .before .before .before .before in
+    let m = mark-behind (d .before .before) in
     let a = start m .args in
-    d .decode-row .ensures ∙ ap (λ (r : List ℕ). successive (a .n) r (rowOf (2 ^ a .n) (a .work .now))) (lent m)
+    let decided : List ℕ → List ℕ = λ r. successive (a .n) r (rowOf (2 ^ a .n) (a .work .now)) in
+    (d .decode-row .ensures .0 ∙ ap decided (lent m), d .decode-row .ensures .1 ∙ ap (λ (r : List ℕ). transform (a .n) (decided r)) (lent m))
 
 array-borrow-prefix-chosen : tie.Need-array-borrow-prefix-chosen
-array-borrow-prefix-chosen c = room (c .before .before)
+array-borrow-prefix-chosen c = room (c .before .before .before)
 
 slice-aggregate-mark : tie.Need-slice-aggregate-mark
-slice-aggregate-mark c = sym (size (c .before .before .before))
+slice-aggregate-mark c = sym (size (c .before .before .before .before))
 
 array-share-prefix-chosen : tie.Need-array-share-prefix-chosen
 array-share-prefix-chosen c = front-room (marked (c .before .before)) _ _ (back-size (c .before .before))
@@ -74,12 +76,15 @@ slice-aggregate-decode-row c = sym (lent-size (c .before .before .before))
 
 decode-row-requires : tie.Need-decode-row-requires
 decode-row-requires c κs =
-    let m = mark-behind c in
+    let m = mark-behind (c .before) in
     let s = start m in
-    ((s .pre .0 .0, s .pre .1 .0, lent-size m ∙ s .pre .0 .2, s .pre .0 .2), s .pre .1 .1)
+    ((s .pre .0 .0, s .pre .1 .0, lent-size m ∙ s .pre .0 .2, s .pre .0 .2, s .pre .0 .3), s .pre .1 .1)
 
 same-length : tie.Need-same-length
 same-length c = search needs
+
+same-length-2 : tie.Need-same-length-2
+same-length-2 c = search needs
 
 pub decide-row-spec : {M : Type 1} → statement M
 decide-row-spec =
@@ -92,4 +97,5 @@ decide-row-spec =
     slice-aggregate-decode-row
     decode-row-requires
     same-length
+    same-length-2
     returns)

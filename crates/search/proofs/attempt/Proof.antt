@@ -35,7 +35,7 @@ same-length c = search needs
 returns : tie.Need-returns
 returns c =
     let v = c .before .before in
-    attempted-is (tries (start (v .before .before))) (v .accept .result) (v .accept .last .1 .1 .1 .1 .0) (v .accept .ensures)
+    attempted-is (tries (start (v .before .before))) (v .accept .result .answer) (v .accept .result .noise) (v .accept .last .1 .1 .1 .1 .0) (v .accept .ensures)
 
 pub attempt-spec : {M : Type 1} → statement M
 attempt-spec =

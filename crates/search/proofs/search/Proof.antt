@@ -18,19 +18,19 @@ use Rattle.search.proofs.search.Tie as tie
 
 -- a `continue` of the outer loop steps i in the inner one, where it has to be said that i stands still till then
 abbrev Inv-values : tie.InvT-values
-Inv-values n-id region list out number candidate refused sequence ready code before i₀ c start end row k₀ i-end k-end i k =
+Inv-values n-id region list out number candidate noise refused sequence ready code before i₀ c start end row k₀ i-end k-end i k =
     (i ≡ i₀) × Passed region c row k
 
 abbrev μ-values : tie.MeasureT-values
-μ-values n-id region list out number candidate refused sequence ready code before i₀ c start end row k₀ i-end k-end i k =
+μ-values n-id region list out number candidate noise refused sequence ready code before i₀ c start end row k₀ i-end k-end i k =
     length row - k
 
 abbrev Inv-candidates : tie.InvT-candidates
-Inv-candidates n-id region list out₀ number₀ candidate₀ refused sequence₀ ready₀ code₀ before₀ i₀ i-end out number candidate sequence ready code before i =
+Inv-candidates n-id region list out₀ number₀ candidate₀ noise₀ refused sequence₀ ready₀ code₀ before₀ i₀ i-end out number candidate noise sequence ready code before i =
     Kept n-id region list out₀ out i × Stock sequence ready code before
 
 abbrev μ-candidates : tie.MeasureT-candidates
-μ-candidates n-id region list out₀ number₀ candidate₀ refused sequence₀ ready₀ code₀ before₀ i₀ i-end out number candidate sequence ready code before i =
+μ-candidates n-id region list out₀ number₀ candidate₀ noise₀ refused sequence₀ ready₀ code₀ before₀ i₀ i-end out number candidate noise sequence ready code before i =
     length list / 5 - i
 
 -- ---- what holds at the places of the code
@@ -138,13 +138,13 @@ nothing-requires c κs = search needs
 
 returns : tie.Need-returns Inv-values μ-values Inv-candidates μ-candidates
 returns c =
-    let t = c .before .before .before in
+    let t = c .before .before .before .before in
     let k = t .before in
     let a = k .before .before .before .args in
     let p = a .region .ptr in
     let e = c .nothing .ensures in
     let f = refused-is (a .n-id) (a .region .now) (a .list .now) (a .out .now) (k .check-sizes .result) (t .if1 .taken) (sym (k .check-sizes .ensures)) in
-    (rw (e .0, e .1, e .2) f, e .3 ∙ ap (λ (n : ℕ). (p .0, n + p .1)) (sym (no-start (a .list .now) _ _ _ (t .if1 .taken) f)))
+    (rw (e .0, e .1, e .2, e .3) f, e .4 ∙ ap (λ (n : ℕ). (p .0, n + p .1)) (sym (no-start (a .list .now) _ _ _ (t .if1 .taken) f)))
 
 no-code-requires : tie.Need-no-code-requires Inv-values μ-values Inv-candidates μ-candidates
 no-code-requires c κs = search needs
@@ -287,10 +287,10 @@ returns-2 c =
     let x = extended (d .before) in
     let v = passed x .before in
     let t = turn-here v in
-    let f = found-it t (tried (allowed v)) (v .values .inv .1 .is) (numbered x .numbers-of .ensures) (d .attempt .result) (d .attempt .last .1 .1 .1 .1 .0) (d .attempt .ensures)
-    (done (d .attempt .result) (c .enum-told .given .1)) (sized (head (taken (allowed v)))) in
+    let f = found-it t (tried (allowed v)) (v .values .inv .1 .is) (numbered x .numbers-of .ensures) (d .attempt .result .answer) (d .attempt .result .noise) (d .attempt .last .1 .1 .1 .1 .0) (d .attempt .ensures)
+    (done (d .attempt .result .answer) (c .enum-told .given .1)) (sized (head (taken (allowed v)))) in
     let at = start (head (taken (allowed v))) .args .region .ptr in
-    (f, ap (λ (n : ℕ). (at .0, n + at .1)) (start-at t _ _ _ f))
+    (f, ap (λ (n : ℕ). (at .0, n + at .1)) (start-at t _ _ _ _ f))
 
 add-i-3 : tie.Need-add-i-3 Inv-values μ-values Inv-candidates μ-candidates
 add-i-3 c =
@@ -305,8 +305,8 @@ candidates-again-3 c =
     let d = c .before .before .before in
     let x = extended (d .before) in
     let v = passed x .before in (
-      skip-refused (turn-here v) (tried (allowed v)) (v .values .inv .1 .is) (numbered x .numbers-of .ensures) (d .attempt .result) (d .attempt .last .1 .1 .1 .1 .0) (d .attempt .ensures)
-          (refused (d .attempt .result) (c .match .keys2)),
+      skip-refused (turn-here v) (tried (allowed v)) (v .values .inv .1 .is) (numbered x .numbers-of .ensures) (d .attempt .result .answer) (d .attempt .result .noise) (d .attempt .last .1 .1 .1 .1 .0) (d .attempt .ensures)
+          (refused (d .attempt .result .answer) (c .match .keys2)),
       record { size = sequence-size x; terms = x .extend .ensures .1; kept = record { is = λ e. x .before .before .code-for .ensures } },
     )
 
@@ -314,16 +314,16 @@ nothing-requires-2 : tie.Need-nothing-requires-2 Inv-values μ-values Inv-candid
 nothing-requires-2 c κs = search needs
 
 same-length-2 : tie.Need-same-length-2 Inv-values μ-values Inv-candidates μ-candidates
-same-length-2 c = ap length (c .before .before .before .before .candidates .inv .0 .same)
+same-length-2 c = ap length (c .before .before .before .before .before .candidates .inv .0 .same)
 
 returns-3 : tie.Need-returns-3 Inv-values μ-values Inv-candidates μ-candidates
 returns-3 c =
-    let h = c .before .before .before .before in
+    let h = c .before .before .before .before .before in
     let a = start h .args in
     let p = a .region .ptr in
     let e = c .nothing2 .ensures in
-    let f = found-none (h .candidates .inv .0) (c .before .before .before .candidates-test .left) (sized h) in
-    (rw (e .0, e .1, e .2) f, e .3 ∙ ap (λ (n : ℕ). (p .0, n + p .1)) (sym (no-start (a .list .now) _ 8 _ (λ z. omega arith) f)))
+    let f = found-none (h .candidates .inv .0) (c .before .before .before .before .candidates-test .left) (sized h) in
+    (rw (e .0, e .1, e .2, e .3) f, e .4 ∙ ap (λ (n : ℕ). (p .0, n + p .1)) (sym (no-start (a .list .now) _ 8 _ (λ z. omega arith) f)))
 
 pub search-spec : {M : Type 1} → statement M
 search-spec =

@@ -92,7 +92,7 @@ returns-5 c =
     let k = k₂ .before .before .before in
     let a = k .before .before .before .args in
     loop-done (a .numbers) (a .payload .now) (a .strengths .now) (a .out .now) (k .check-sizes .result) (k .check-sizes .ensures) (k₂ .before .enum-told .given .1)
-    (k₂ .check-sizes2 .result) (k₂ .check-sizes2 .ensures) (f .before .enum-told2 .given .1) (bytes (i .before .before)) (strong i) (v .through .result) (v .through .last .1 .1 .1 .0) (v .through .ensures)
+    (k₂ .check-sizes2 .result) (k₂ .check-sizes2 .ensures) (f .before .enum-told2 .given .1) (bytes (i .before .before)) (strong i) (v .through .ensures)
 
 check-sizes-requires : tie.Need-check-sizes-requires
 check-sizes-requires c κs = search needs
@@ -112,8 +112,8 @@ first-bad-requires c κs = search needs
 first-outside-requires : tie.Need-first-outside-requires
 first-outside-requires c κs = search needs
 
-add-t15 : tie.Need-add-t15
-add-t15 c =
+add-place : tie.Need-add-place
+add-place c =
     let o = c .before in
     let f = o .before .before in
     let k₂ = f .before .before .before in
@@ -141,7 +141,7 @@ loopback-spec =
     first-bad-requires
     returns-3
     first-outside-requires
-    add-t15
+    add-place
     returns-4
     through-requires
     same-length

@@ -40,7 +40,7 @@ returns c =
     let g = d .before .before .before .before in
     let s = g .before .before .before .before in
     let a = s .args in
-    loop-found (a .numbers) (a .payload .now) (a .strengths .now) (a .out .now) (s .pre) _ (lent g) (d .decode .result .answer) (d .decode .last .1 .1 .0) (d .decode .ensures)
+    loop-found (a .numbers) (a .payload .now) (a .strengths .now) (a .out .now) (s .pre) _ (lent g) (d .decode .ensures)
 
 array-borrow-prefix-soft : tie.Need-array-borrow-prefix-soft
 array-borrow-prefix-soft c = room (c .before .before)

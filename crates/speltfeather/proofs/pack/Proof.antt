@@ -11,9 +11,9 @@ use Rattle.speltfeather.proofs.pack.Statement.{statement}
 use Rattle.speltfeather.proofs.pack.Tie as tie
 
 -- the place that the answer carries is small
-small : (c : tie.After-known-told) → c .before .answer .given .0 .0 < 2 ^ 32
+small : (c : tie.After-known-told) → c .before .answer .given .0 .0 < 2 ^ 16
 unfolding placeOf
-small c = subst (λ (r : Answer). placeOf r < 2 ^ 32) (c .before .answer .given .1) (c .before .before .before .pre)
+small c = subst (λ (r : Answer). placeOf r < 2 ^ 16) (c .before .answer .given .1) (c .before .before .before .pre)
 
 enum-told : tie.Need-enum-told
 enum-told c = search needs

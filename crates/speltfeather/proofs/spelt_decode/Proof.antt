@@ -6,7 +6,8 @@ use borrow.Author.Needs.{needs}
 use Rattle.nr.specs.declared.Numbers.{Numbers}
 use Rattle.nr.specs.Decoding.{decoding}
 use Rattle.nr.proofs.Promise1.{decoding-place}
-use Rattle.speltfeather.proofs.Packing.{returned, small}
+use Rattle.nr.proofs.Recoding.{decoding-noise-small}
+use Rattle.speltfeather.proofs.Packing.{counted-returned, counted-small}
 use Rattle.speltfeather.proofs.spelt_decode.Statement.{statement}
 use Rattle.speltfeather.proofs.spelt_decode.Tie as tie
 
@@ -24,18 +25,19 @@ returns : tie.Need-returns
 returns c =
     let x = c .before .before .before in
     let a = made x .before .before .args in
-    returned _ (x .decode .result .answer) (x .decode .last .1 .1 .0)
-    (x .decode .ensures ∙ ap (λ (s : Numbers). decoding s (a .soft .now) (a .out .now)) (made x .as-numbers .ensures)) (c .pack .result) (c .pack .ensures)
+    counted-returned _ (x .decode .result .answer) (x .decode .result .noise) (x .decode .last .1 .1 .0)
+    (x .decode .ensures ∙ ap (λ (s : Numbers). decoding s (a .soft .now) (a .out .now)) (made x .as-numbers .ensures)) (c .pack-counted .result) (c .pack-counted .ensures)
 
-pack-requires : tie.Need-pack-requires
-pack-requires c κs =
+pack-counted-requires : tie.Need-pack-counted-requires
+pack-counted-requires c κs =
     let x = c .before .before in
     let a = made x .before .before .args in
-    small _ (x .decode .result .answer) (x .decode .last .1 .1 .0) (x .decode .ensures)
+    counted-small _ (x .decode .result .answer) (x .decode .result .noise) (x .decode .last .1 .1 .0) (x .decode .ensures)
     (omega (arith, decoding-place (made x .as-numbers .result) (a .soft .now) (a .out .now)))
+    (decoding-noise-small (made x .as-numbers .result) (a .soft .now) (a .out .now))
 
 same-length : tie.Need-same-length
 same-length c = search needs
 
 pub spelt-decode-spec : {M : Type 1} → statement M
-spelt-decode-spec = tie.close (tie.spec as-numbers-requires decode-requires pack-requires same-length returns)
+spelt-decode-spec = tie.close (tie.spec as-numbers-requires decode-requires pack-counted-requires same-length returns)

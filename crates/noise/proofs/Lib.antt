@@ -1,0 +1,2 @@
+-- Laws of the noise count: one value, and the loop that counts.
+pub mod Counting
