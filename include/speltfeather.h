@@ -23,9 +23,9 @@ extern "C" {
 
 /* The version of this header and of the archive that it comes with. */
 #define SPELT_VERSION_MAJOR 0
-#define SPELT_VERSION_MINOR 3
+#define SPELT_VERSION_MINOR 4
 #define SPELT_VERSION_PATCH 0
-#define SPELT_VERSION "0.3.0"
+#define SPELT_VERSION "0.4.0"
 
 /*
  * The numbers given back. They are tested in this order, and the first that
@@ -71,17 +71,38 @@ enum spelt_number {
 #define SPELT_AS(type, value) ((type)(value))
 #endif
 
+/*
+ * The answer r of a call is one number of 64 bits:
+ *
+ *   bits  0 to  7   the number                           SPELT_NUMBER(r)
+ *   bits  8 to 23   the place; spelt_search: the candidate
+ *                                       SPELT_PLACE(r), SPELT_CANDIDATE(r)
+ *   bits 24 to 39   the noise count                      SPELT_NOISE(r)
+ *   bits 40 to 63   0; kept for a count to come
+ *
+ * r is 0 exactly if the number, the place and the noise count are; so ask
+ * SPELT_NUMBER(r) whether a call did its work, and not r itself.
+ */
+
 /* The number in the answer r of a call: one of enum spelt_number. */
 #define SPELT_NUMBER(r) SPELT_AS(int, (r) & 255u)
 
 /* The place in the answer r of every call but spelt_search: with
  * SPELT_BAD_ENTRY the index, from 0, of the first entry outside its range; with
  * every other number 0. */
-#define SPELT_PLACE(r) SPELT_AS(size_t, (r) >> 8)
+#define SPELT_PLACE(r) SPELT_AS(size_t, ((r) >> 8) & 65535u)
 
 /* The candidate in the answer r of spelt_search: with SPELT_DONE the index,
  * from 0, of the one that was read; with every other number 0. */
-#define SPELT_CANDIDATE(r) SPELT_AS(size_t, (r) >> 8)
+#define SPELT_CANDIDATE(r) SPELT_AS(size_t, ((r) >> 8) & 65535u)
+
+/* The noise count in the answer r: with SPELT_DONE from spelt_decode and
+ * spelt_search, how many of the soft values that the payload was read from are
+ * not 0 and have the wrong sign for their bit of the payload coded again: 0 to
+ * 1728. All e values count, those of a bit that was sent several times each. It
+ * is 0 for a row without noise, and so from spelt_loopback, with every number
+ * but SPELT_DONE, and from the calls that read no soft values. */
+#define SPELT_NOISE(r) SPELT_AS(size_t, ((r) >> 24) & 65535u)
 
 /*
  * What the calls share:
@@ -110,9 +131,9 @@ enum spelt_number {
  * numbers, lengths and entries may be handed in, and what does not fit is
  * refused.
  *
- * Each call gives the number plus 256 times the place, spelt_search plus 256
- * times the candidate; take them out with SPELT_NUMBER, SPELT_PLACE and
- * SPELT_CANDIDATE. The number 0 means done.
+ * Each call gives number, place or candidate, and noise count as one number; take
+ * them out with SPELT_NUMBER, SPELT_PLACE, SPELT_CANDIDATE and SPELT_NOISE. The
+ * number 0 means done.
  */
 
 /*
@@ -143,10 +164,15 @@ uint64_t spelt_encode(uint64_t a, uint64_t e, uint16_t rnti, uint16_t n_id,
  * SPELT_PARITY_MISMATCH says that no payload was found under these numbers: too
  * much noise, another RNTI, n_id, n_rnti or size, or no message at all.
  *
+ * With SPELT_DONE, SPELT_NOISE(r) says how noisy the row was: how many of its
+ * values are not 0 and have the wrong sign for the payload coded again.
+ *
  *   uint8_t payload[37];
  *   uint64_t r = spelt_decode(37, 432, 0xFFFF, n_id, 0, soft, 432, payload, 37);
- *   if (SPELT_NUMBER(r) == SPELT_DONE)
+ *   if (SPELT_NUMBER(r) == SPELT_DONE) {
  *       take(payload);
+ *       printf("%zu of 432 wrong\n", SPELT_NOISE(r));
+ *   }
  */
 uint64_t spelt_decode(uint64_t a, uint64_t e, uint16_t rnti, uint16_t n_id,
                       uint16_t n_rnti,
@@ -163,8 +189,8 @@ uint64_t spelt_decode(uint64_t a, uint64_t e, uint16_t rnti, uint16_t n_id,
  *   out        takes the payload that was decoded
  *
  * SPELT_DONE comes wherever 1 to 6 do not apply, and out then holds the
- * payload. Entries are counted through the payload and then the strengths: the
- * place is k for payload[k] and a + k for strengths[k].
+ * payload; the noise count is 0. Entries are counted through the payload and
+ * then the strengths: the place is k for payload[k] and a + k for strengths[k].
  */
 uint64_t spelt_loopback(uint64_t a, uint64_t e, uint16_t rnti, uint16_t n_id,
                         uint16_t n_rnti,
@@ -225,7 +251,8 @@ uint64_t spelt_search_list(uint16_t n_id,
  *                      none behind it was tried. The first a bytes of out are
  *                      its payload, and all others are as they were. The
  *                      stretch that it was read from is 108 * level values at
- *                      region + 108 * first_cce.
+ *                      region + 108 * first_cce, and SPELT_NOISE(r) counts in
+ *                      these alone.
  * SPELT_INPUT_LENGTH   the region is not 0 to 64 whole CCEs, or there are more
  *                      than 44 candidates
  * SPELT_OUTPUT_LENGTH  out_len is not 140

@@ -60,6 +60,8 @@ int main(void)
     if (SPELT_NUMBER(r) != SPELT_DONE)
         return refused("spelt_decode", r);
     print_bits("got", got, A);
+    /* How noisy it was: values with the wrong sign for the payload coded again. */
+    printf("%-8s%zu of %d soft values\n", "wrong", SPELT_NOISE(r), E);
     if (memcmp(got, payload, A) != 0)
         return 1;
 

@@ -34,7 +34,7 @@ static void fill(int32_t *region)
 static void put(const uint8_t *bits, int32_t *at)
 {
     for (int k = 0; k < E; k++)
-        at[k] += bits[k] == 0 ? 30 : -30;
+        at[k] += bits[k] == 0 ? 15 : -15;
 }
 
 /* Every place of a level that the region has, behind the count that the list
@@ -85,9 +85,10 @@ int main(void)
         return refused("spelt_search", r);
     const spelt_candidate *found = &list[SPELT_CANDIDATE(r)];
     printf("candidate %zu of %zu: %" PRIu32 " bits from CCE %" PRIu32
-           ", level %" PRIu32 ", n_RNTI %04" PRIX32 "\n",
+           ", level %" PRIu32 ", n_RNTI %04" PRIX32
+           ", %zu of %" PRIu32 " soft values wrong\n",
            SPELT_CANDIDATE(r), count, found->a, found->first_cce, found->level,
-           found->n_rnti);
+           found->n_rnti, SPELT_NOISE(r), SPELT_CCE * found->level);
     if (found->first_cce != FIRST || found->n_rnti != own_rnti ||
         memcmp(got, payload, A) != 0)
         return 1;

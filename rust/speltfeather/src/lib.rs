@@ -15,8 +15,8 @@
 //! // A receiver has soft values: positive leans to bit 0, negative to bit 1.
 //! let soft = coded.map(|bit| if bit == 0 { 20 } else { -20 });
 //! let mut read = [0; 40];
-//! decode(&numbers, &soft, &mut read)?;
-//! assert_eq!(read, payload);
+//! let reading = decode(&numbers, &soft, &mut read)?;
+//! assert_eq!((read, reading.noise), (payload, 0));
 //! # Ok::<(), Refusal>(())
 //! ```
 //!
@@ -119,6 +119,15 @@ impl fmt::Display for Refusal {
 
 impl Error for Refusal {}
 
+/// What decoding says of a row besides its payload. Later versions may say more.
+#[derive(Clone, Copy, Debug, PartialEq, Eq)]
+#[non_exhaustive]
+pub struct Reading {
+    /// The noise count: how many of the E soft values are not 0 and have the wrong sign for their bit of
+    /// the payload coded again. 0 for a row without noise, and never above E.
+    pub noise: usize,
+}
+
 unsafe extern "C" {
     fn spelt_encode(
         a: u64,
@@ -212,14 +221,15 @@ pub fn encode(numbers: &Numbers, payload: &[u8], out: &mut [u8]) -> Result<(), R
             out.len(),
         )
     };
-    read(answer, 6)
+    uncounted(answer)
 }
 
 /// Reads the payload back from soft values, and checks its parity.
 ///
 /// `soft` has a value for each coded bit, in the order of [`encode`]'s output and still scrambled: its
 /// log-likelihood ratio, scaled to -127..=127. Positive leans to bit 0, negative to bit 1, and 0 says
-/// nothing. Where the parity matches, `out` takes the payload.
+/// nothing. Where the parity matches, `out` takes the payload, and [`Reading::noise`] says how many of
+/// the values were on the wrong side.
 ///
 /// Any numbers, lengths and values may be handed in. On a refusal `out` is untouched.
 ///
@@ -236,8 +246,8 @@ pub fn encode(numbers: &Numbers, payload: &[u8], out: &mut [u8]) -> Result<(), R
 /// soft[7] = 0;
 /// soft[50] = -soft[50] / 5;
 /// let mut out = [0; 12];
-/// decode(&numbers, &soft, &mut out)?;
-/// assert_eq!(out, payload);
+/// let reading = decode(&numbers, &soft, &mut out)?;
+/// assert_eq!((out, reading.noise), (payload, 1));
 ///
 /// // A message for another RNTI, or scrambled for another n_RNTI, is not taken.
 /// for other in [Numbers { rnti: 0x4602, ..numbers }, Numbers { n_rnti: 0x4601, ..numbers }] {
@@ -250,7 +260,7 @@ pub fn encode(numbers: &Numbers, payload: &[u8], out: &mut [u8]) -> Result<(), R
 ///
 /// # Errors
 /// The first [`Refusal`] that applies.
-pub fn decode(numbers: &Numbers, soft: &[i32], out: &mut [u8]) -> Result<(), Refusal> {
+pub fn decode(numbers: &Numbers, soft: &[i32], out: &mut [u8]) -> Result<Reading, Refusal> {
     // SAFETY: as in `encode`.
     let answer = unsafe {
         spelt_decode(
@@ -271,8 +281,8 @@ pub fn decode(numbers: &Numbers, soft: &[i32], out: &mut [u8]) -> Result<(), Ref
 /// Codes `payload`, gives each coded bit its strength, with the sign that says its value, and decodes
 /// these soft values into `out`: a self-test for the start-up of a tester.
 ///
-/// Wherever the call is not refused, `out` then holds the payload. The place of a bad entry counts
-/// through the payload and then the strengths. On a refusal `out` is untouched.
+/// Wherever the call is not refused, `out` then holds the payload, and the noise count is 0. The place of
+/// a bad entry counts through the payload and then the strengths. On a refusal `out` is untouched.
 ///
 /// ```
 /// use speltfeather::{Numbers, Refusal, loopback};
@@ -281,8 +291,8 @@ pub fn decode(numbers: &Numbers, soft: &[i32], out: &mut [u8]) -> Result<(), Ref
 /// let payload = [1; 40];
 /// let mut strengths: Vec<i32> = (1..=127).cycle().take(216).collect();
 /// let mut out = [0; 40];
-/// loopback(&numbers, &payload, &strengths, &mut out)?;
-/// assert_eq!(out, payload);
+/// let reading = loopback(&numbers, &payload, &strengths, &mut out)?;
+/// assert_eq!((out, reading.noise), (payload, 0));
 ///
 /// strengths[3] = 0;
 /// assert_eq!(loopback(&numbers, &payload, &strengths, &mut out), Err(Refusal::BadEntry(40 + 3)));
@@ -296,7 +306,7 @@ pub fn loopback(
     payload: &[u8],
     strengths: &[i32],
     out: &mut [u8],
-) -> Result<(), Refusal> {
+) -> Result<Reading, Refusal> {
     // SAFETY: as in `encode`; the two inputs, which may overlap, are only read.
     let answer = unsafe {
         spelt_loopback(
@@ -342,8 +352,9 @@ pub struct Candidate {
 // The library takes a list of candidates as a list of numbers.
 const _: () = assert!(size_of::<Candidate>() == 5 * size_of::<u32>());
 
-/// What a search has found.
+/// What a search has found. Later versions may say more.
 #[derive(Clone, Copy, Debug, PartialEq, Eq)]
+#[non_exhaustive]
 pub struct Found<'a> {
     /// The place in the list, from 0, of the first candidate that decodes.
     pub candidate: usize,
@@ -351,6 +362,8 @@ pub struct Found<'a> {
     pub size: usize,
     /// The soft values that it was read from, in the caller's region.
     pub stretch: &'a [i32],
+    /// The noise count, as in [`Reading::noise`]: of the values of `stretch` alone.
+    pub noise: usize,
 }
 
 /// Looks for a message in a region: tries the candidates in the order of the list, under one `n_id`,
@@ -394,7 +407,7 @@ pub struct Found<'a> {
 /// let list = [at(0, 8), at(0, 2), at(2, 2), at(4, 2), at(6, 2)];
 /// let mut payload = [9; MAX_PAYLOAD];
 /// let found = search(500, &region, &list, &mut payload)?;
-/// assert_eq!((found.candidate, found.size), (3, 40));
+/// assert_eq!((found.candidate, found.size, found.noise), (3, 40, 0));
 /// assert_eq!((&payload[..40], &payload[40..]), (&sent[..], &[9; 100][..]));
 /// assert!(std::ptr::eq(found.stretch, &region[4 * CCE..6 * CCE]));
 ///
@@ -425,13 +438,14 @@ pub fn search<'a>(
             payload.len(),
         )
     };
-    let candidate = named(answer)?;
+    let (candidate, noise) = named(answer)?;
     let found = candidates[candidate];
     let start = CCE * found.first_cce as usize;
     Ok(Found {
         candidate,
         size: found.a as usize,
         stretch: &region[start..start + CCE * found.level as usize],
+        noise,
     })
 }
 
@@ -459,7 +473,7 @@ pub fn search<'a>(
 pub fn describe(a: u64, e: u64, out: &mut [u8]) -> Result<(), Refusal> {
     // SAFETY: the pointer comes from a slice, so it is not null and is valid for the length handed over.
     let answer = unsafe { spelt_describe(a, e, out.as_mut_ptr(), out.len()) };
-    read(answer, 6)
+    uncounted(answer)
 }
 
 /// What a position of a code is for.
@@ -582,34 +596,48 @@ impl Code {
 #[doc = include_str!("../../../README.md")]
 struct Readme;
 
-/// Takes apart an answer of the C interface: the number, which is at most `last` for the call that
-/// gave it, plus 256 times the place.
-fn read(answer: u64, last: u64) -> Result<(), Refusal> {
-    match (answer & 255, answer >> 8) {
-        (0, 0) => Ok(()),
-        (1, 0) => Err(Refusal::PayloadSize),
-        (2, 0) => Err(Refusal::CodedLength),
-        (3, 0) => Err(Refusal::TooManyBits),
-        (4, 0) => Err(Refusal::InputLength),
-        (5, 0) => Err(Refusal::OutputLength),
-        (6, place) => Err(Refusal::BadEntry(place as usize)),
-        (7, 0) if last == 7 => Err(Refusal::ParityMismatch),
-        (number, place) => {
-            panic!("the library answered {number} with place {place}, which this call never does")
-        }
+/// An answer of the C interface, taken apart: the number, then the place or the candidate, then the
+/// noise count and what is behind it, which is 0.
+fn parts(answer: u64) -> (u64, usize, usize) {
+    let sixteen_bits = |from: u32| (answer >> from & 0xFFFF) as usize;
+    (answer & 0xFF, sixteen_bits(8), (answer >> 24) as usize)
+}
+
+/// The answer of a call that decodes and whose number is at most `last`.
+fn read(answer: u64, last: u64) -> Result<Reading, Refusal> {
+    match parts(answer) {
+        (0, 0, noise) if noise <= 1728 => Ok(Reading { noise }),
+        (1, 0, 0) => Err(Refusal::PayloadSize),
+        (2, 0, 0) => Err(Refusal::CodedLength),
+        (3, 0, 0) => Err(Refusal::TooManyBits),
+        (4, 0, 0) => Err(Refusal::InputLength),
+        (5, 0, 0) => Err(Refusal::OutputLength),
+        (6, place, 0) => Err(Refusal::BadEntry(place)),
+        (7, 0, 0) if last == 7 => Err(Refusal::ParityMismatch),
+        (number, place, noise) => panic!(
+            "the library answered {number} with place {place} and noise {noise}, which this call never does"
+        ),
     }
 }
 
-/// Takes apart an answer of the search: the number plus 256 times the candidate.
-fn named(answer: u64) -> Result<usize, Refusal> {
-    match (answer & 255, answer >> 8) {
-        (0, candidate) => Ok(candidate as usize),
-        (4, 0) => Err(Refusal::InputLength),
-        (5, 0) => Err(Refusal::OutputLength),
-        (8, 0) => Err(Refusal::NoCandidate),
-        (number, candidate) => {
-            panic!("the search answered {number} with candidate {candidate}, which it never does")
-        }
+/// The answer of a call that counts nothing.
+fn uncounted(answer: u64) -> Result<(), Refusal> {
+    match read(answer, 6)? {
+        Reading { noise: 0 } => Ok(()),
+        Reading { noise } => panic!("the library counted {noise} where there is no noise"),
+    }
+}
+
+/// The answer of the search: the candidate and its noise count.
+fn named(answer: u64) -> Result<(usize, usize), Refusal> {
+    match parts(answer) {
+        (0, candidate, noise) if noise <= 1728 => Ok((candidate, noise)),
+        (4, 0, 0) => Err(Refusal::InputLength),
+        (5, 0, 0) => Err(Refusal::OutputLength),
+        (8, 0, 0) => Err(Refusal::NoCandidate),
+        (number, candidate, noise) => panic!(
+            "the search answered {number} with candidate {candidate} and noise {noise}, which it never does"
+        ),
     }
 }
 
@@ -622,7 +650,12 @@ mod tests {
         for number in [1, 2, 3, 4, 5, 7] {
             assert_eq!(u64::from(read(number, 7).unwrap_err().number()), number);
         }
-        assert_eq!(read(0, 6), Ok(()));
+        assert_eq!(uncounted(0), Ok(()));
+        for noise in [0, 1, 1728] {
+            let answer = (noise as u64) << 24;
+            assert_eq!(read(answer, 7), Ok(Reading { noise }));
+            assert_eq!(named(answer + 256 * 43), Ok((43, noise)));
+        }
         assert_eq!(read(6, 6), Err(Refusal::BadEntry(0)));
         assert_eq!(read(6 + 256 * 1727, 6), Err(Refusal::BadEntry(1727)));
         assert_eq!(Refusal::BadEntry(1727).number(), 6);
@@ -630,8 +663,7 @@ mod tests {
         for number in [4, 5, 8] {
             assert_eq!(u64::from(named(number).unwrap_err().number()), number);
         }
-        assert_eq!(named(0), Ok(0));
-        assert_eq!(named(256 * 43), Ok(43));
+        assert_eq!(named(0), Ok((0, 0)));
         assert_eq!(named(8), Err(Refusal::NoCandidate));
     }
 
@@ -683,6 +715,30 @@ mod tests {
     #[should_panic(expected = "answered 8 with candidate 1")]
     fn candidate_without_a_message_is_not_taken() {
         let _ = named(8 + 256);
+    }
+
+    #[test]
+    #[should_panic(expected = "answered 7 with place 0 and noise 5")]
+    fn noise_with_a_parity_mismatch_is_not_taken() {
+        let _ = read(7 + (5 << 24), 7);
+    }
+
+    #[test]
+    #[should_panic(expected = "answered 8 with candidate 0 and noise 5")]
+    fn noise_without_a_candidate_is_not_taken() {
+        let _ = named(8 + (5 << 24));
+    }
+
+    #[test]
+    #[should_panic(expected = "answered 0 with place 0 and noise 65536")]
+    fn bits_above_the_noise_count_are_not_taken() {
+        let _ = read(1 << 40, 7);
+    }
+
+    #[test]
+    #[should_panic(expected = "counted 1 where")]
+    fn noise_is_taken_from_decoding_alone() {
+        let _ = uncounted(1 << 24);
     }
 
     #[test]
