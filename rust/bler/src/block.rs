@@ -40,8 +40,8 @@ impl Block {
     pub fn verdict(&self) -> Verdict {
         let mut out = vec![0; self.payload.len()];
         match decode(&self.numbers, &self.soft, &mut out) {
-            Ok(()) if out == self.payload => Verdict::Read,
-            Ok(()) => Verdict::Wrong,
+            Ok(_) if out == self.payload => Verdict::Read,
+            Ok(_) => Verdict::Wrong,
             Err(Refusal::ParityMismatch) => Verdict::Refused,
             Err(refusal) => panic!("{refusal} for a row that can be decoded"),
         }
@@ -161,10 +161,10 @@ mod tests {
         };
         let mut out = vec![0; a as usize];
         match reference::decode(&numbers, &block.soft, &mut out) {
-            (0, 0) if out == block.payload => Verdict::Read,
-            (0, 0) => Verdict::Wrong,
+            (0, 0, _) if out == block.payload => Verdict::Read,
+            (0, 0, _) => Verdict::Wrong,
             answer => {
-                assert_eq!(answer, (7, 0));
+                assert_eq!(answer, (7, 0, 0));
                 Verdict::Refused
             }
         }

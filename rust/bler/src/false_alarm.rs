@@ -143,7 +143,7 @@ fn accepted(case: &Case, rows: u64, noise: &Noise, random: &mut Random) -> Count
     for _ in 0..rows {
         noise.fill(&mut soft, random);
         match decode(&random.common_numbers(case.a, case.e), &soft, &mut out) {
-            Ok(()) => count.accepted += 1,
+            Ok(_) => count.accepted += 1,
             Err(Refusal::ParityMismatch) => {}
             Err(refusal) => panic!("{refusal} for a row that can be decoded"),
         }

@@ -5,7 +5,8 @@
 //! the transform a product with the matrix, the interleaver is rebuilt from the generator, the
 //! reliability order comes from another print, the Gold sequence is its recurrence on arrays that start
 //! with the bits of n_ID and n_RNTI, the decoder goes from position to position instead of calling
-//! itself on halves, and the search looks candidates up among all places of the region.
+//! itself on halves, the noise count compares the row with one of the same strengths and no noise, and
+//! the search looks candidates up among all places of the region.
 //! It is written to be checked, not to be fast.
 
 pub mod construction;
@@ -55,6 +56,10 @@ impl Numbers {
         }
     }
 }
+
+/// What a call that decodes gives: the number, the place or the candidate, and the noise count, which is
+/// 0 on every number but 0.
+pub type Answer = (u8, usize, usize);
 
 /// The refusal, 1 to 3, that the sizes alone call for.
 pub fn refused_sizes(a: u64, e: u64) -> Option<u8> {
@@ -137,35 +142,45 @@ pub fn encode(numbers: &Numbers, payload: &[u8], out: &mut [u8]) -> (u8, usize) 
     (0, 0)
 }
 
-/// Decodes `soft` into `out` and gives the number and the place.
+/// Decodes `soft` into `out` and gives the number, the place and the noise count: that of `soft` against
+/// the payload coded again.
 ///
 /// On every number but 0, `out` is untouched.
-pub fn decode(numbers: &Numbers, soft: &[i32], out: &mut [u8]) -> (u8, usize) {
+pub fn decode(numbers: &Numbers, soft: &[i32], out: &mut [u8]) -> Answer {
     let Numbers { a, e, .. } = *numbers;
-    if let Some(answer) = refused_decoding(a, e, soft, out.len()) {
-        return answer;
+    if let Some((number, place)) = refused_decoding(a, e, soft, out.len()) {
+        return (number, place, 0);
     }
     let layout = layout(a, e).expect("the sizes are accepted");
     let Some(payload) = decoding::payload(&layout, numbers, soft) else {
-        return (7, 0);
+        return (7, 0, 0);
     };
     out.copy_from_slice(&payload);
-    (0, 0)
+    let mut again = vec![0; soft.len()];
+    assert_eq!(encode(numbers, &payload, &mut again), (0, 0));
+    (0, 0, noise(&again, soft))
+}
+
+/// The noise count of a row of soft values against coded bits: where it is not the noiseless row of the
+/// same strengths. A 0 has no strength, and so no sign to be wrong.
+pub fn noise(coded: &[u8], soft: &[i32]) -> usize {
+    let strengths: Vec<i32> = soft.iter().map(|value| value.abs()).collect();
+    let right = noiseless(coded, &strengths);
+    right
+        .iter()
+        .zip(soft)
+        .filter(|(r, value)| r != value)
+        .count()
 }
 
 /// Codes `payload`, gives each coded bit its strength with the sign that says its value, decodes that
-/// into `out`, and gives the number and the place.
+/// into `out`, and gives the number, the place and the noise count.
 ///
 /// On every number but 0, `out` is untouched.
-pub fn loopback(
-    numbers: &Numbers,
-    payload: &[u8],
-    strengths: &[i32],
-    out: &mut [u8],
-) -> (u8, usize) {
+pub fn loopback(numbers: &Numbers, payload: &[u8], strengths: &[i32], out: &mut [u8]) -> Answer {
     let Numbers { a, e, .. } = *numbers;
-    if let Some(answer) = refused_loopback(a, e, payload, strengths, out.len()) {
-        return answer;
+    if let Some((number, place)) = refused_loopback(a, e, payload, strengths, out.len()) {
+        return (number, place, 0);
     }
     let mut coded = vec![0; strengths.len()];
     assert_eq!(encode(numbers, payload, &mut coded), (0, 0));

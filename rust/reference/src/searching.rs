@@ -1,7 +1,7 @@
 //! The search of a handset's candidates (document 02): every place where a message may lie is written
 //! down first, and a candidate is looked up among them.
 
-use crate::{Numbers, decode};
+use crate::{Answer, Numbers, decode};
 
 /// The soft values of a CCE.
 pub const CCE: usize = 108;
@@ -33,13 +33,15 @@ pub fn places(cces: usize) -> Vec<Place> {
     LEVELS.into_iter().flat_map(of_level).collect()
 }
 
-/// The stretch of a candidate and its payload; none if it does not decode.
-fn read<'a>(
-    n_id: u16,
-    region: &'a [i32],
-    candidate: &[u32],
-    places: &[Place],
-) -> Option<(&'a [i32], Vec<u8>)> {
+/// What a candidate that decodes gives.
+struct Read<'a> {
+    stretch: &'a [i32],
+    payload: Vec<u8>,
+    noise: usize,
+}
+
+/// Reads a candidate's own stretch of the region; none if it does not decode.
+fn read<'a>(n_id: u16, region: &'a [i32], candidate: &[u32], places: &[Place]) -> Option<Read<'a>> {
     let [first_cce, level, a, rnti, n_rnti] = *candidate else {
         panic!("five numbers to a candidate");
     };
@@ -57,36 +59,40 @@ fn read<'a>(
     };
     // Above 140, A itself is refused.
     let mut payload = vec![0; BUFFER.min(a as usize)];
-    let (number, _) = decode(&numbers, stretch, &mut payload);
-    (number == 0).then_some((stretch, payload))
+    let (number, _, noise) = decode(&numbers, stretch, &mut payload);
+    (number == 0).then_some(Read {
+        stretch,
+        payload,
+        noise,
+    })
 }
 
 /// Tries the candidates, five numbers each, one after the other. Gives the number, the candidate that
-/// decodes and its stretch of the region; its payload is at the front of `out`.
+/// decodes with its noise count, and its stretch of the region; its payload is at the front of `out`.
 ///
-/// On every number but 0 the candidate is 0, the stretch is empty and `out` is untouched.
+/// On every number but 0 candidate and noise count are 0, the stretch is empty and `out` is untouched.
 pub fn search<'a>(
     n_id: u16,
     region: &'a [i32],
     candidates: &[u32],
     out: &mut [u8],
-) -> (u8, usize, &'a [i32]) {
+) -> (Answer, &'a [i32]) {
     let (cces, values_left) = (region.len() / CCE, region.len() % CCE);
     let (count, numbers_left) = (candidates.len() / NUMBERS, candidates.len() % NUMBERS);
     if values_left > 0 || cces > CCES || numbers_left > 0 || count > CANDIDATES {
-        return (4, 0, &[]);
+        return ((4, 0, 0), &[]);
     }
     if out.len() != BUFFER {
-        return (5, 0, &[]);
+        return ((5, 0, 0), &[]);
     }
     let places = places(cces);
     for (i, candidate) in candidates.chunks(NUMBERS).enumerate() {
-        if let Some((stretch, payload)) = read(n_id, region, candidate, &places) {
-            out[..payload.len()].copy_from_slice(&payload);
-            return (0, i, stretch);
+        if let Some(read) = read(n_id, region, candidate, &places) {
+            out[..read.payload.len()].copy_from_slice(&read.payload);
+            return ((0, i, read.noise), read.stretch);
         }
     }
-    (8, 0, &[])
+    ((8, 0, 0), &[])
 }
 
 #[cfg(test)]

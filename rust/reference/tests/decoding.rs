@@ -2,7 +2,7 @@
 
 use reference::decoding::{CERTAIN, decided, descrambled, f, g, gathered};
 use reference::{
-    CODED_LENGTHS, Kind, Layout, Numbers, decode, encode, layout, loopback, noiseless,
+    CODED_LENGTHS, Kind, Layout, Numbers, decode, encode, layout, loopback, noise, noiseless,
 };
 use reference::{published, scrambling, transform};
 
@@ -201,7 +201,7 @@ fn messages_are_read_back() {
                     n_rnti,
                 };
                 let answer = loopback(&numbers, &payload, &strengths, &mut out);
-                assert_eq!(answer, (0, 0), "A = {a}, E = {e}");
+                assert_eq!(answer, (0, 0, 0), "A = {a}, E = {e}");
                 assert_eq!(out, payload, "A = {a}, E = {e}");
                 read += 1;
             }
@@ -222,7 +222,7 @@ fn hardware_word_is_read() {
     };
     let soft = noiseless(&scrambling::scrambled(&sent, 7, 0x4601), &[1; 108]);
     let mut out = [9; 78];
-    assert_eq!(decode(&numbers, &soft, &mut out), (0, 0));
+    assert_eq!(decode(&numbers, &soft, &mut out), (0, 0, 0));
     assert_eq!(
         Some(out.to_vec()),
         published::hardware_payload(),
@@ -258,8 +258,47 @@ fn errors_are_corrected() {
         soft[k] = 0;
     }
     let mut out = [9; 37];
-    assert_eq!(decode(&RECORDED, &soft, &mut out), (0, 0));
+    // 48 were turned, and of these the 9 at 40, 85, .. then made 0.
+    assert_eq!(decode(&RECORDED, &soft, &mut out), (0, 0, 48 - 9));
     assert_eq!(out.to_vec(), published::recorded_payload());
+}
+
+#[test]
+fn wrong_signs_are_counted_and_zeros_are_not() {
+    assert_eq!(noise(&[], &[]), 0);
+    assert_eq!(noise(&[0, 1], &[1, -1]), 0);
+    assert_eq!(noise(&[0, 1], &[127, -127]), 0);
+    assert_eq!(noise(&[0, 1], &[0, 0]), 0);
+    assert_eq!(noise(&[0, 1], &[-1, -1]), 1);
+    assert_eq!(noise(&[0, 1], &[1, 1]), 1);
+    assert_eq!(noise(&[0, 1], &[-127, 127]), 2);
+    assert_eq!(noise(&[0, 0, 1, 1], &[-3, 0, 5, -7]), 2);
+}
+
+#[test]
+fn each_repeat_that_is_wrong_counts() {
+    // E = 1728 sends code bit y_i at i, i + 512 and i + 1024, and below 192 at i + 1536 too.
+    let numbers = Numbers {
+        rnti: 0x4601,
+        n_id: 500,
+        n_rnti: 0x1234,
+        ..Numbers::sized(40, 1728)
+    };
+    let payload = bits(40, 3);
+    let mut coded = vec![0; 1728];
+    assert_eq!(encode(&numbers, &payload, &mut coded), (0, 0));
+    let mut soft = noiseless(&coded, &[60; 1728]);
+    for (k, wrong) in [7, 7 + 512, 7 + 1536, 300, 300 + 1024].into_iter().zip(1..) {
+        soft[k] = -soft[k];
+        let mut out = [9; 40];
+        assert_eq!(decode(&numbers, &soft, &mut out), (0, 0, wrong));
+        assert_eq!(out.to_vec(), payload);
+    }
+    soft[7] = 0;
+    assert_eq!(decode(&numbers, &soft, &mut [9; 40]), (0, 0, 4));
+    // Another RNTI: nothing is accepted, so that nothing is counted.
+    let other = Numbers { rnti: 1, ..numbers };
+    assert_eq!(decode(&other, &soft, &mut [9; 40]), (7, 0, 0));
 }
 
 #[test]
@@ -273,12 +312,16 @@ fn other_numbers_do_not_match() {
     };
     for other in (0..16).map(|bit| 1 << bit) {
         let (rnti, n_id, n_rnti) = (RECORDED.rnti ^ other, RECORDED.n_id ^ other, other);
-        assert_eq!(answer(Numbers { rnti, ..RECORDED }), (7, 0));
-        assert_eq!(answer(Numbers { n_id, ..RECORDED }), (7, 0), "n_ID {n_id}");
+        assert_eq!(answer(Numbers { rnti, ..RECORDED }), (7, 0, 0));
+        assert_eq!(
+            answer(Numbers { n_id, ..RECORDED }),
+            (7, 0, 0),
+            "n_ID {n_id}"
+        );
         // The top bit of n_RNTI falls out.
         let number = if other == 0x8000 { 0 } else { 7 };
         let answer = answer(Numbers { n_rnti, ..RECORDED });
-        assert_eq!(answer, (number, 0), "n_RNTI {n_rnti}");
+        assert_eq!(answer, (number, 0, 0), "n_RNTI {n_rnti}");
     }
 }
 
@@ -288,7 +331,7 @@ fn values_that_say_nothing_do_not_match() {
     for e in CODED_LENGTHS {
         let mut out = [9; 40];
         let soft = vec![0; e as usize];
-        assert_eq!(decode(&Numbers::sized(40, e), &soft, &mut out), (7, 0));
+        assert_eq!(decode(&Numbers::sized(40, e), &soft, &mut out), (7, 0, 0));
         assert_eq!(out, [9; 40]);
     }
 }
@@ -297,24 +340,27 @@ fn values_that_say_nothing_do_not_match() {
 fn refusals_of_decoding() {
     let mut soft = vec![0; 108];
     let mut out = [9; 12];
-    assert_eq!(decode(&Numbers::sized(11, 107), &soft, &mut out), (1, 0));
-    assert_eq!(decode(&Numbers::sized(12, 107), &soft, &mut out), (2, 0));
-    assert_eq!(decode(&Numbers::sized(85, 108), &soft, &mut out), (3, 0));
+    assert_eq!(decode(&Numbers::sized(11, 107), &soft, &mut out), (1, 0, 0));
+    assert_eq!(decode(&Numbers::sized(12, 107), &soft, &mut out), (2, 0, 0));
+    assert_eq!(decode(&Numbers::sized(85, 108), &soft, &mut out), (3, 0, 0));
     assert_eq!(
         decode(&Numbers::sized(12, 108), &soft[1..], &mut out[1..]),
-        (4, 0)
+        (4, 0, 0)
     );
     soft[107] = 128;
     assert_eq!(
         decode(&Numbers::sized(12, 108), &soft, &mut out[1..]),
-        (5, 0)
+        (5, 0, 0)
     );
-    assert_eq!(decode(&Numbers::sized(12, 108), &soft, &mut out), (6, 107));
+    assert_eq!(
+        decode(&Numbers::sized(12, 108), &soft, &mut out),
+        (6, 107, 0)
+    );
     soft[3] = -128;
-    assert_eq!(decode(&Numbers::sized(12, 108), &soft, &mut out), (6, 3));
+    assert_eq!(decode(&Numbers::sized(12, 108), &soft, &mut out), (6, 3, 0));
     for bad in [i32::MIN, i32::MAX] {
         soft[0] = bad;
-        assert_eq!(decode(&Numbers::sized(12, 108), &soft, &mut out), (6, 0));
+        assert_eq!(decode(&Numbers::sized(12, 108), &soft, &mut out), (6, 0, 0));
     }
     assert_eq!(out, [9; 12]);
 }
@@ -332,17 +378,17 @@ fn refusals_of_loopback() {
             &mut out[skipped..],
         )
     };
-    assert_eq!(call(11, 107, &payload, &strengths, 0), (1, 0));
-    assert_eq!(call(12, 107, &payload, &strengths, 0), (2, 0));
-    assert_eq!(call(85, 108, &payload, &strengths, 0), (3, 0));
-    assert_eq!(call(12, 108, &payload[1..], &strengths, 1), (4, 0));
-    assert_eq!(call(12, 108, &payload, &strengths[1..], 1), (4, 0));
+    assert_eq!(call(11, 107, &payload, &strengths, 0), (1, 0, 0));
+    assert_eq!(call(12, 107, &payload, &strengths, 0), (2, 0, 0));
+    assert_eq!(call(85, 108, &payload, &strengths, 0), (3, 0, 0));
+    assert_eq!(call(12, 108, &payload[1..], &strengths, 1), (4, 0, 0));
+    assert_eq!(call(12, 108, &payload, &strengths[1..], 1), (4, 0, 0));
     strengths[107] = 128;
-    assert_eq!(call(12, 108, &payload, &strengths, 1), (5, 0));
-    assert_eq!(call(12, 108, &payload, &strengths, 0), (6, 12 + 107));
+    assert_eq!(call(12, 108, &payload, &strengths, 1), (5, 0, 0));
+    assert_eq!(call(12, 108, &payload, &strengths, 0), (6, 12 + 107, 0));
     strengths[0] = 0;
-    assert_eq!(call(12, 108, &payload, &strengths, 0), (6, 12));
+    assert_eq!(call(12, 108, &payload, &strengths, 0), (6, 12, 0));
     payload[11] = 2;
-    assert_eq!(call(12, 108, &payload, &strengths, 0), (6, 11));
+    assert_eq!(call(12, 108, &payload, &strengths, 0), (6, 11, 0));
     assert_eq!(out, [9; 12]);
 }

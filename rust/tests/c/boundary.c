@@ -12,8 +12,9 @@
  *   - directly behind one,
  *
  * where in the last two the inputs cannot be written. The answer must be the
- * one that the header says, and each time the same; inputs, what surrounds the
- * output, and on a refusal the output must hold what they held.
+ * one that the header says, all 64 bits of it, and each time the same; inputs,
+ * what surrounds the output, and on a refusal the output must hold what they
+ * held.
  *
  * With `stack` the calls run in threads of 64 kB, and what they take of the
  * stack must be about what the header says.
@@ -153,8 +154,8 @@ static void fail(const struct call *c, const char *where, const char *why,
                  uint64_t r)
 {
     say(c, where, why);
-    fprintf(stderr, "the answer is %d with place %zu\n", SPELT_NUMBER(r),
-            SPELT_PLACE(r));
+    fprintf(stderr, "the answer is %d with place %zu and noise %zu: %" PRIx64
+            "\n", SPELT_NUMBER(r), SPELT_PLACE(r), SPELT_NOISE(r), r);
     exit(1);
 }
 
@@ -199,31 +200,50 @@ static int in_range(const struct kind *kind, const uint8_t *bytes, size_t count)
     return 1;
 }
 
+/* The whole answer of a call that is done: the noise count of what was decoded
+ * against the payload coded again, and 0 elsewhere. */
+static uint64_t done(const struct call *c, const uint8_t *payload)
+{
+    static uint8_t again[MOST];
+    uint64_t noise = 0;
+    if (c->kind->ask != decode)
+        return SPELT_DONE;
+    if (spelt_encode(c->a, c->e, c->rnti, c->n_id, c->n_rnti, payload,
+                     c->out_len, again, c->values_len) != SPELT_DONE)
+        return UINT64_MAX;
+    for (size_t i = 0; i < c->values_len; i++)
+        noise += again[i] == 0 ? c->values[i] < 0 : c->values[i] > 0;
+    return SPELT_DONE + (noise << 24);
+}
+
 /* Why an answer is wrong; NULL if it is right. */
 static const char *fault(const struct call *c, uint64_t r, const uint8_t *out)
 {
     uint64_t first = refusal(c);
+    int is_done = SPELT_NUMBER(r) == SPELT_DONE;
     if (first != 0 && r != first)
         return "another refusal applies";
-    if (first == 0 && r != 0 &&
+    if (first == 0 && !is_done &&
         !(r == SPELT_PARITY_MISMATCH &&
           can_give(c->kind, SPELT_PARITY_MISMATCH)))
         return "no refusal applies";
     if (first == 0 && c->known == GIVES_MISMATCH && r != SPELT_PARITY_MISMATCH)
         return "the parity cannot match";
     if (first == 0 && c->known == GIVES_PAYLOAD &&
-        (r != 0 || memcmp(out, c->payload, c->out_len) != 0))
+        (!is_done || memcmp(out, c->payload, c->out_len) != 0))
         return "it must give the payload";
-    if (r != 0 && memcmp(out, c->out, c->out_len) != 0)
+    if (!is_done && memcmp(out, c->out, c->out_len) != 0)
         return "the output is written";
-    if (r == 0 && !in_range(c->kind, out, c->out_len))
+    if (is_done && !in_range(c->kind, out, c->out_len))
         return "the output is out of range";
+    if (is_done && r != done(c, out))
+        return "the noise count is wrong";
     return NULL;
 }
 
 /* ---- calls ---- */
 
-static unsigned long calls;
+static unsigned long calls, noisy;
 static struct room payload_room, values_room, out_room;
 
 /* The call that is being made, for on_access. */
@@ -277,6 +297,7 @@ static int number_of(const struct call *c)
         if (r != first || memcmp(out, first_out, c->out_len) != 0)
             fail(c, how_names[how], "another answer than elsewhere", r);
     }
+    noisy += SPELT_NOISE(first) > 0;
     return SPELT_NUMBER(first);
 }
 
@@ -317,7 +338,7 @@ static void fill(struct call *c, const struct kind *kind, uint64_t a,
     }
 }
 
-/* Makes the values a message of uneven strengths; the numbers are accepted. */
+/* Makes the values a message; the numbers are accepted. */
 static void send(struct call *c)
 {
     static uint8_t coded[MOST];
@@ -325,10 +346,7 @@ static void send(struct call *c)
                               c->payload, (size_t)c->a, coded, (size_t)c->e);
     if (r != 0)
         fail(c, "coding of a message", "no refusal applies", r);
-    for (size_t i = 0; i < c->values_len; i++) {
-        int32_t strength = 1 + (int32_t)below(127);
-        c->values[i] = coded[i] == 0 ? strength : -strength;
-    }
+    receive(coded, c->a, c->values_len, c->values);
     c->known = GIVES_PAYLOAD;
 }
 
@@ -505,6 +523,10 @@ static int run_calls(unsigned long count)
                         kinds[i].given[number]);
                 return 1;
             }
+    if (noisy < 10) {
+        fprintf(stderr, "%lu calls gave a noise count\n", noisy);
+        return 1;
+    }
     printf("%lu calls, all as expected\n", calls);
     return 0;
 }
@@ -545,6 +567,8 @@ static int run_stack(void)
         size_t most = 0;
         for (size_t k = 0; k < PAIRS; k++) {
             fill(&c, &kinds[i], pairs[k].a, pairs[k].e);
+            if (kinds[i].ask == decode)
+                send(&c); /* noise is counted where a message is accepted */
             number_of(&c); /* so that memcpy and memset are linked */
             size_t taken = stack_of_call(&c);
             most = taken > most ? taken : most;

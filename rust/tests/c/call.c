@@ -4,6 +4,7 @@
  * call limits
  * call candidate
  * call version
+ * call parts R
  * call encode   A E RNTI N_ID N_RNTI OUT_LEN PAYLOAD
  * call decode   A E RNTI N_ID N_RNTI OUT_LEN SOFT
  * call loopback A E RNTI N_ID N_RNTI OUT_LEN PAYLOAD STRENGTHS
@@ -14,10 +15,10 @@
  * One call through the header, from C or C++. The last arguments are lists with
  * a comma behind each entry; the output starts as 9s; describing takes sizes
  * alone, and searching N_ID alone. A candidate is five entries. COUNT may be
- * more than there are. Prints the number, the place or the candidate, and the
- * output; or the numbers of the header in their order, its roles and their
- * count, the limits of a search, the size of a candidate and where its members
- * stand, or its version twice.
+ * more than there are. Prints the number, the place or the candidate, the noise
+ * count, and the output; or the numbers of the header in their order, its roles
+ * and their count, the limits of a search, the size of a candidate and where its
+ * members stand, its version twice, or what its macros take from an answer R.
  */
 #include <stddef.h>
 #include <stdio.h>
@@ -115,9 +116,18 @@ static int print_version(void)
     return 0;
 }
 
+static int print_parts(uint64_t r)
+{
+    printf("%d %zu %zu %zu\n", SPELT_NUMBER(r), SPELT_PLACE(r),
+           SPELT_CANDIDATE(r), SPELT_NOISE(r));
+    return 0;
+}
+
 static int print_answered(uint64_t r, size_t place, size_t out_len)
 {
-    printf("%d %zu ", SPELT_NUMBER(r), place);
+    if (r >> 40 != 0)
+        return 3;
+    printf("%d %zu %zu ", SPELT_NUMBER(r), place, SPELT_NOISE(r));
     for (size_t i = 0; i < out_len; i++)
         putchar('0' + out[i]);
     putchar('\n');
@@ -146,6 +156,8 @@ int main(int argc, char **argv)
         return print_candidate();
     if (argc == 2 && strcmp(argv[1], "version") == 0)
         return print_version();
+    if (argc == 3 && strcmp(argv[1], "parts") == 0)
+        return print_parts(strtoull(argv[2], NULL, 10));
     if (argc < 8)
         return 2;
     uint64_t a = strtoull(argv[2], NULL, 10), e = strtoull(argv[3], NULL, 10);

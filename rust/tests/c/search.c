@@ -7,9 +7,9 @@
  * refusal, candidates that are no possible message, and COUNT random searches.
  * Each is made four times, as in boundary.c, with its buffers allocated, at
  * other addresses, and directly before and behind pages that cannot be
- * accessed; inputs cannot be written there. The answer and the whole buffer
- * must be those that the header says, by spelt_decode on each candidate's own
- * values.
+ * accessed; inputs cannot be written there. The answer, all 64 bits of it, and
+ * the whole buffer must be those that the header says, by spelt_decode on each
+ * candidate's own values.
  *
  * With `stack` the searches run in threads of 64 kB, and what they take of the
  * stack must be about what the header says.
@@ -79,9 +79,10 @@ static uint64_t expected(const struct search *s, uint8_t *out)
             continue;
         size_t e = SPELT_CCE * (size_t)c->level;
         const int32_t *row = s->region + SPELT_CCE * (size_t)c->first_cce;
-        if (spelt_decode(c->a, e, (uint16_t)c->rnti, s->n_id,
-                         (uint16_t)c->n_rnti, row, e, out, c->a) == 0)
-            return SPELT_DONE + 256 * (uint64_t)i;
+        uint64_t r = spelt_decode(c->a, e, (uint16_t)c->rnti, s->n_id,
+                                  (uint16_t)c->n_rnti, row, e, out, c->a);
+        if (SPELT_NUMBER(r) == SPELT_DONE)
+            return r + 256 * (uint64_t)i; /* with its noise count */
     }
     return SPELT_NO_CANDIDATE;
 }
@@ -100,14 +101,14 @@ static void fail(const struct search *s, const char *where, const char *why,
                  uint64_t r)
 {
     say(s, where, why);
-    fprintf(stderr, "the answer is %d with candidate %zu\n", SPELT_NUMBER(r),
-            SPELT_CANDIDATE(r));
+    fprintf(stderr, "the answer is %d with candidate %zu and noise %zu\n",
+            SPELT_NUMBER(r), SPELT_CANDIDATE(r), SPELT_NOISE(r));
     exit(1);
 }
 
 /* ---- calls ---- */
 
-static unsigned long calls, given[256];
+static unsigned long calls, noisy, given[256];
 static struct room region_room, list_room, out_room;
 
 /* The search that is being made, for on_access. */
@@ -164,6 +165,7 @@ static void make(const struct search *s)
         if (memcmp(out, right, s->out_len) != 0)
             fail(s, how_names[how], "the output is wrong", r);
     }
+    noisy += SPELT_NOISE(answer) > 0 && SPELT_CANDIDATE(answer) > 0;
     given[SPELT_NUMBER(answer)]++;
 }
 
@@ -214,10 +216,7 @@ static void send(struct search *s, const spelt_candidate *c)
                               (uint16_t)c->n_rnti, payload, c->a, coded, e);
     if (r != 0)
         fail(s, "coding of a message", "no refusal applies", r);
-    for (size_t i = 0; i < e; i++) {
-        int32_t strength = 1 + (int32_t)below(127);
-        row[i] = coded[i] == 0 ? strength : -strength;
-    }
+    receive(coded, c->a, e, row);
 }
 
 /* Every place, in a region that ends with it and in one of 64 CCEs. */
@@ -391,6 +390,11 @@ static int run_calls(unsigned long count)
                     given[numbers[i]]);
             return 1;
         }
+    if (noisy < 10) {
+        fprintf(stderr, "%lu searches gave a candidate and a noise count\n",
+                noisy);
+        return 1;
+    }
     printf("%lu calls, all as expected\n", calls);
     return 0;
 }

@@ -1,6 +1,7 @@
 /*
- * What the programs of the boundary share: random numbers, buffers that have
- * exactly the room that their lengths say, and the measuring of the stack.
+ * What the programs of the boundary share: random numbers, messages as they are
+ * received, buffers that have exactly the room that their lengths say, and the
+ * measuring of the stack.
  */
 #ifndef SUPPORT_H
 #define SUPPORT_H
@@ -34,6 +35,21 @@ static uint64_t any(void)
 static size_t below(size_t bound)
 {
     return (size_t)((any() >> 16) % bound);
+}
+
+/* ---- messages ---- */
+
+/* The e soft values of coded bits, of uneven strengths. Where the code has much
+ * to spare, every 19th is wrong, but as weak as can be. */
+static void receive(const uint8_t *coded, uint64_t a, size_t e, int32_t *soft)
+{
+    int spare = 4 * (a + 24) <= e;
+    for (size_t i = 0; i < e; i++) {
+        int32_t strength = 1 + (int32_t)below(127);
+        if (spare && i % 19 == 7)
+            strength = -1;
+        soft[i] = coded[i] == 0 ? strength : -strength;
+    }
 }
 
 /* ---- buffers with exactly the room that they need ---- */

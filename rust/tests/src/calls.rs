@@ -1,26 +1,35 @@
 //! Calls that are put to both programs.
 
-use crate::Random;
-use speltfeather::{Numbers, Refusal};
+use crate::{Random, library};
+use reference::Answer;
+use speltfeather::Numbers;
 use std::fmt::Debug;
 use std::sync::Barrier;
 use std::thread;
 
-/// What a call gives: the number, the place, and the output buffer afterwards.
+/// What a call gives: the number, the place, the noise count, and the output buffer afterwards.
 #[derive(Clone, Debug, PartialEq, Eq)]
 pub struct Outcome {
     pub number: u8,
     pub place: usize,
+    pub noise: usize,
     pub out: Vec<u8>,
 }
 
-/// The number and the place of what the library gives.
-pub fn answer(given: Result<(), Refusal>) -> (u8, usize) {
-    match given {
-        Ok(()) => (0, 0),
-        Err(refusal @ Refusal::BadEntry(place)) => (refusal.number(), place),
-        Err(refusal) => (refusal.number(), 0),
+impl Outcome {
+    pub fn of((number, place, noise): Answer, out: Vec<u8>) -> Self {
+        Self {
+            number,
+            place,
+            noise,
+            out,
+        }
     }
+}
+
+/// The answer of a call that counts no noise.
+pub fn uncounted((number, place): (u8, usize)) -> Answer {
+    (number, place, 0)
 }
 
 /// The numbers of a call, as the reference takes them.
@@ -46,10 +55,10 @@ pub trait Call: Debug {
     fn out(&self) -> &[u8];
 
     /// Puts the call to the library.
-    fn ask_library(&self, out: &mut [u8]) -> (u8, usize);
+    fn ask_library(&self, out: &mut [u8]) -> Answer;
 
     /// Puts the call to the reference.
-    fn ask_reference(&self, out: &mut [u8]) -> (u8, usize);
+    fn ask_reference(&self, out: &mut [u8]) -> Answer;
 
     /// What the library gives. The buffer stands between guards, which must not change either.
     fn library(&self) -> Outcome {
@@ -57,18 +66,18 @@ pub trait Call: Debug {
         let mut room = [&GUARD[..], self.out(), &GUARD].concat();
         let end = GUARD.len() + self.out().len();
         let out = &mut room[GUARD.len()..end];
-        let (number, place) = self.ask_library(out);
+        let answer = self.ask_library(out);
         let out = out.to_vec();
         assert_eq!(room[..GUARD.len()], GUARD, "written before the buffer");
         assert_eq!(room[end..], GUARD, "written behind the buffer");
-        Outcome { number, place, out }
+        Outcome::of(answer, out)
     }
 
     /// What the reference gives.
     fn reference(&self) -> Outcome {
         let mut out = self.out().to_vec();
-        let (number, place) = self.ask_reference(&mut out);
-        Outcome { number, place, out }
+        let answer = self.ask_reference(&mut out);
+        Outcome::of(answer, out)
     }
 
     /// What both give; that they differ is an error.
@@ -78,10 +87,9 @@ pub trait Call: Debug {
         outcome
     }
 
-    /// What a refusal must give: the buffer as it was.
+    /// What a refusal must give: no noise count, and the buffer as it was.
     fn refused(&self, number: u8, place: usize) -> Outcome {
-        let out = self.out().to_vec();
-        Outcome { number, place, out }
+        Outcome::of((number, place, 0), self.out().to_vec())
     }
 
     /// Asserts that both give this number and place, and leave the buffer alone if it is a refusal.
@@ -119,12 +127,16 @@ impl Call for Encode {
         &self.out
     }
 
-    fn ask_library(&self, out: &mut [u8]) -> (u8, usize) {
-        answer(speltfeather::encode(&self.numbers, &self.payload, out))
+    fn ask_library(&self, out: &mut [u8]) -> Answer {
+        library::encode(&self.numbers, &self.payload, out)
     }
 
-    fn ask_reference(&self, out: &mut [u8]) -> (u8, usize) {
-        reference::encode(&second(&self.numbers), &self.payload, out)
+    fn ask_reference(&self, out: &mut [u8]) -> Answer {
+        uncounted(reference::encode(
+            &second(&self.numbers),
+            &self.payload,
+            out,
+        ))
     }
 }
 
@@ -149,11 +161,11 @@ impl Call for Decode {
         &self.out
     }
 
-    fn ask_library(&self, out: &mut [u8]) -> (u8, usize) {
-        answer(speltfeather::decode(&self.numbers, &self.soft, out))
+    fn ask_library(&self, out: &mut [u8]) -> Answer {
+        library::decode(&self.numbers, &self.soft, out)
     }
 
-    fn ask_reference(&self, out: &mut [u8]) -> (u8, usize) {
+    fn ask_reference(&self, out: &mut [u8]) -> Answer {
         reference::decode(&second(&self.numbers), &self.soft, out)
     }
 }
@@ -190,16 +202,11 @@ impl Call for Loopback {
         &self.out
     }
 
-    fn ask_library(&self, out: &mut [u8]) -> (u8, usize) {
-        answer(speltfeather::loopback(
-            &self.numbers,
-            &self.payload,
-            &self.strengths,
-            out,
-        ))
+    fn ask_library(&self, out: &mut [u8]) -> Answer {
+        library::loopback(&self.numbers, &self.payload, &self.strengths, out)
     }
 
-    fn ask_reference(&self, out: &mut [u8]) -> (u8, usize) {
+    fn ask_reference(&self, out: &mut [u8]) -> Answer {
         let numbers = second(&self.numbers);
         reference::loopback(&numbers, &self.payload, &self.strengths, out)
     }
@@ -226,12 +233,12 @@ impl Call for Describe {
         &self.out
     }
 
-    fn ask_library(&self, out: &mut [u8]) -> (u8, usize) {
-        answer(speltfeather::describe(self.a, self.e, out))
+    fn ask_library(&self, out: &mut [u8]) -> Answer {
+        library::describe(self.a, self.e, out)
     }
 
-    fn ask_reference(&self, out: &mut [u8]) -> (u8, usize) {
-        reference::describe(self.a, self.e, out)
+    fn ask_reference(&self, out: &mut [u8]) -> Answer {
+        uncounted(reference::describe(self.a, self.e, out))
     }
 }
 

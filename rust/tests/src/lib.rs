@@ -4,6 +4,7 @@ pub mod built;
 pub mod calls;
 pub mod documents;
 pub mod faults;
+pub mod library;
 pub mod rows;
 pub mod searches;
 pub mod trials;

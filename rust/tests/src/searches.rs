@@ -2,26 +2,13 @@
 
 use crate::rows::strengths;
 use crate::trials::coded;
-use crate::{Call, Random};
+use crate::{Call, Random, library};
 use channel::{MOST, received};
-use reference::noiseless;
 use reference::searching::{BUFFER, CCE, NUMBERS, Place};
+use reference::{Answer, noiseless};
 use speltfeather::{Candidate, Numbers, decode};
 use std::ops::Range;
 use std::ptr;
-
-unsafe extern "C" {
-    // What the header's `spelt_search` and the wrapper's `search` both hand over to.
-    fn spelt_search_list(
-        n_id: u16,
-        region: *const i32,
-        region_len: usize,
-        candidates: *const u32,
-        candidates_len: usize,
-        out: *mut u8,
-        out_len: usize,
-    ) -> u64;
-}
 
 /// What is added to a number that 8, 16 or 31 of its bits would be taken for, or, where it is
 /// multiplied by 108, that a product of 32 bits would be.
@@ -56,8 +43,15 @@ pub fn candidate(numbers: [u32; NUMBERS]) -> Candidate {
     }
 }
 
+/// The candidates that a list of numbers has whole.
+pub fn candidates(list: &[u32]) -> Vec<Candidate> {
+    let whole = list.chunks_exact(NUMBERS);
+    let five = |numbers: &[u32]| numbers.try_into().expect("five numbers");
+    whole.map(|numbers| candidate(five(numbers))).collect()
+}
+
 /// Where the values of a candidate stand in its region.
-fn span(candidate: &Candidate) -> Range<usize> {
+pub fn span(candidate: &Candidate) -> Range<usize> {
     let [start, length] = [candidate.first_cce, candidate.level].map(|cces| CCE * cces as usize);
     start..start + length
 }
@@ -146,45 +140,20 @@ impl Search {
         &self.list[..self.list_len]
     }
 
-    /// The candidates that the list has whole.
-    fn candidates(&self) -> Vec<Candidate> {
-        let whole = self.list().chunks_exact(NUMBERS);
-        let five = |numbers: &[u32]| numbers.try_into().expect("five numbers");
-        whole.map(|numbers| candidate(five(numbers))).collect()
+    /// Asserts that both name this candidate, without noise, and give this payload, and that the rest
+    /// of the buffer is as it was.
+    pub fn expect_message(&self, candidate: usize, payload: &[u8]) {
+        self.expect_noisy(candidate, payload, 0);
     }
 
-    /// Asserts that both name this candidate and give this payload, and that the rest of the buffer
-    /// is as it was.
-    pub fn expect_message(&self, candidate: usize, payload: &[u8]) {
+    /// The same with a noise count.
+    pub fn expect_noisy(&self, candidate: usize, payload: &[u8], noise: usize) {
         let outcome = self.compared();
-        let found = (outcome.number, outcome.place);
-        assert_eq!(found, (0, candidate), "{self:?}");
+        let found = (outcome.number, outcome.place, outcome.noise);
+        assert_eq!(found, (0, candidate, noise), "{self:?}");
         let (front, rest) = outcome.out.split_at(payload.len());
         assert_eq!(front, payload, "{self:?}");
         assert_eq!(rest, &self.out[payload.len()..], "{self:?}");
-    }
-
-    /// The stretch that an answer hands back must be the caller's own, where its candidate says.
-    fn assert_stretch(&self, number: u8, candidate: usize, stretch: &[i32]) {
-        if number != 0 {
-            assert!(stretch.is_empty() && candidate == 0, "{self:?}");
-            return;
-        }
-        let own = &self.region[span(&self.candidates()[candidate])];
-        assert!(ptr::eq(stretch, own), "{self:?}");
-    }
-
-    /// What the wrapper gives.
-    fn ask_wrapper(&self, out: &mut [u8]) -> (u8, usize) {
-        let list = self.candidates();
-        match speltfeather::search(self.n_id, self.region(), &list, out) {
-            Ok(found) => {
-                assert_eq!(found.size, list[found.candidate].a as usize, "{self:?}");
-                self.assert_stretch(0, found.candidate, found.stretch);
-                (0, found.candidate)
-            }
-            Err(refusal) => (refusal.number(), 0),
-        }
     }
 }
 
@@ -193,34 +162,18 @@ impl Call for Search {
         &self.out
     }
 
-    fn ask_library(&self, out: &mut [u8]) -> (u8, usize) {
-        let (region, list) = (self.region(), self.list());
-        // SAFETY: the pointers come from three slices and stand with their lengths.
-        let answer = unsafe {
-            spelt_search_list(
-                self.n_id,
-                region.as_ptr(),
-                region.len(),
-                list.as_ptr(),
-                list.len(),
-                out.as_mut_ptr(),
-                out.len(),
-            )
-        };
-        let answer = ((answer & 255) as u8, (answer >> 8) as usize);
-        if list.len() % NUMBERS == 0 {
-            let mut other = self.out.clone();
-            assert_eq!(answer, self.ask_wrapper(&mut other), "{self:?}");
-            assert_eq!(out, other, "{self:?}");
-        }
-        answer
+    fn ask_library(&self, out: &mut [u8]) -> Answer {
+        library::search(self.n_id, self.region(), self.list(), out)
     }
 
-    fn ask_reference(&self, out: &mut [u8]) -> (u8, usize) {
-        let (number, candidate, stretch) =
-            reference::search(self.n_id, self.region(), self.list(), out);
-        self.assert_stretch(number, candidate, stretch);
-        (number, candidate)
+    fn ask_reference(&self, out: &mut [u8]) -> Answer {
+        let (answer, stretch) = reference::search(self.n_id, self.region(), self.list(), out);
+        let is_own = match answer {
+            (0, i, _) => ptr::eq(stretch, &self.region[span(&candidates(self.list())[i])]),
+            _ => stretch.is_empty(),
+        };
+        assert!(is_own, "{self:?}");
+        answer
     }
 }
 
@@ -254,11 +207,18 @@ pub fn with_message(cces: usize, candidate: &Candidate, random: &mut Random) -> 
     (region, payload)
 }
 
-/// Whether the library's decoder accepts the candidate's own row.
-pub fn is_decoded(region: &Region, candidate: &Candidate) -> bool {
+/// The noise count that the library's decoder gives for the candidate's own row; none if it does not
+/// accept it.
+pub fn decoded_noise(region: &Region, candidate: &Candidate) -> Option<usize> {
     let mut out = vec![0; candidate.a as usize];
     let numbers = numbers_of(candidate, region.n_id);
-    decode(&numbers, region.stretch(candidate), &mut out).is_ok()
+    let reading = decode(&numbers, region.stretch(candidate), &mut out);
+    reading.ok().map(|reading| reading.noise)
+}
+
+/// Whether the library's decoder accepts the candidate's own row.
+pub fn is_decoded(region: &Region, candidate: &Candidate) -> bool {
+    decoded_noise(region, candidate).is_some()
 }
 
 /// Each of `others` does not decode, alone or before the candidate that does.

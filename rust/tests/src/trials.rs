@@ -11,6 +11,8 @@ use speltfeather::Numbers;
 pub struct Tally {
     pub accepted: usize,
     pub mismatched: usize,
+    /// Of those accepted, the ones whose noise count is not 0.
+    pub noisy: usize,
 }
 
 impl Tally {
@@ -25,6 +27,7 @@ impl Tally {
             7 => self.mismatched += 1,
             number => panic!("{number} for a row that can be decoded"),
         }
+        self.noisy += usize::from(outcome.noise > 0);
     }
 }
 
@@ -35,7 +38,7 @@ pub fn coded(numbers: &Numbers, payload: &[u8]) -> Vec<u8> {
     out
 }
 
-/// Puts a row to both; it must give this payload.
+/// Puts a row to both; it must give this payload, and the noise count against the payload coded again.
 pub fn expect_payload(
     numbers: Numbers,
     soft: Vec<i32>,
@@ -43,9 +46,11 @@ pub fn expect_payload(
     random: &mut Random,
     tally: &mut Tally,
 ) {
+    let noise = reference::noise(&coded(&numbers, payload), &soft);
     let call = Decode::fitting(numbers, soft, random);
     let outcome = call.compared();
     assert_eq!((outcome.number, &outcome.out[..]), (0, payload), "{call:?}");
+    assert_eq!(outcome.noise, noise, "{call:?}");
     tally.count(&outcome);
 }
 
@@ -64,11 +69,8 @@ pub fn loopback(a: u64, e: u64, random: &mut Random, tally: &mut Tally) {
     let strengths = strengths(e as usize, random);
     let call = Loopback::fitting(random.numbers(a, e), payload, strengths, random);
     let outcome = call.compared();
-    assert_eq!(
-        (outcome.number, &outcome.out),
-        (0, &call.payload),
-        "{call:?}"
-    );
+    let answer = (outcome.number, outcome.noise);
+    assert_eq!((answer, &outcome.out), ((0, 0), &call.payload), "{call:?}");
     tally.count(&outcome);
 }
 

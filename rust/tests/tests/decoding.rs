@@ -39,10 +39,11 @@ fn for_every_pair(
     for_each(&pairs, times, seed, trial)
 }
 
+/// All rows accepted, and none of them noisy.
 fn all_accepted(count: usize) -> Tally {
     Tally {
         accepted: count,
-        mismatched: 0,
+        ..Tally::default()
     }
 }
 
@@ -57,7 +58,10 @@ fn noiseless_rows_give_their_payload() {
 fn repeats_are_added() {
     const ROWS: usize = 4;
     let tally = for_every_pair(ROWS, SEED + 1, trials::contradicted_row);
-    assert_eq!(tally, all_accepted(PAIRS * ROWS));
+    let accepted = Tally { noisy: 0, ..tally };
+    assert_eq!(accepted, all_accepted(PAIRS * ROWS));
+    // Where E is at least 864 there are repeats, and each time one of them is wrong.
+    assert!(tally.noisy > 1000, "{tally:?}");
 }
 
 #[test]
@@ -76,6 +80,10 @@ fn noisy_messages_are_answered_as_the_reference_does() {
         let share = |count: usize| count as f64 / tally.total() as f64;
         assert!(share(tally.accepted) > 0.3, "E = {length}: {tally:?}");
         assert!(share(tally.mismatched) > 0.3, "E = {length}: {tally:?}");
+        assert!(
+            5 * tally.noisy > 4 * tally.accepted,
+            "E = {length}: {tally:?}"
+        );
         rows += tally.total();
     }
     assert_eq!(rows, PAIRS * ROWS * ENERGIES.len());
@@ -103,6 +111,7 @@ fn every_decision_is_that_of_the_reference() {
         let least = PAIRS * ROWS - if name == "mostly 0" { 200 } else { 0 };
         assert!(tally.accepted >= least, "{name}: {tally:?}");
         assert_eq!(tally.mismatched, 0, "{name}");
+        assert!(3 * tally.noisy > 2 * PAIRS * ROWS, "{name}: {tally:?}");
     }
 }
 

@@ -1,11 +1,12 @@
 //! The header, as C and C++ compilers read it, declares what the archive exports.
 
 use conformance::built::{archive, include, is_found, program_of_readme, root, source};
+use conformance::calls::uncounted;
 use conformance::rows::strengths;
-use conformance::searches::any_at;
+use conformance::searches::{any_at, span};
 use conformance::{Call, Outcome, Random, Region, Search};
-use reference::Numbers;
 use reference::searching::{NUMBERS, places};
+use reference::{Answer, Numbers};
 use std::fs;
 use std::io::Write;
 use std::path::{Path, PathBuf};
@@ -60,26 +61,35 @@ fn numbers(a: u64, e: u64) -> Numbers {
     }
 }
 
-/// A call of the program must print what the reference gives for it.
+/// A call of the program must print what the reference gives for it. Gives its noise count.
 fn assert_call(
     program: &Path,
     name: &str,
     (a, e, out_len): (u64, u64, usize),
     lists: &[String],
-    reference: impl FnOnce(&Numbers, &mut [u8]) -> (u8, usize),
-) {
+    reference: impl FnOnce(&Numbers, &mut [u8]) -> Answer,
+) -> usize {
     let numbers = numbers(a, e);
     let mut out = vec![9; out_len];
-    let (number, place) = reference(&numbers, &mut out);
+    let outcome = Outcome::of(reference(&numbers, &mut out), out);
     let short = [numbers.rnti, numbers.n_id, numbers.n_rnti].map(|x| x.to_string());
     let [a, e, out_len] = [a, e, out_len as u64].map(|x| x.to_string());
     let arguments = [&[name.to_string(), a, e], &short[..], &[out_len], lists].concat();
+    let said = printed(program, &arguments);
+    assert_eq!(said, line(&outcome), "{arguments:?}");
+    outcome.noise
+}
+
+/// What the program prints for an outcome: the number, the place, the noise count and the output.
+fn line(outcome: &Outcome) -> String {
+    let Outcome {
+        number,
+        place,
+        noise,
+        out,
+    } = outcome;
     let digits: String = out.iter().map(u8::to_string).collect();
-    assert_eq!(
-        printed(program, &arguments),
-        format!("{number} {place} {digits}\n"),
-        "{arguments:?}"
-    );
+    format!("{number} {place} {noise} {digits}\n")
 }
 
 fn assert_encode(program: &Path, a: u64, e: u64, payload: &[u8], out_len: usize) {
@@ -89,11 +99,11 @@ fn assert_encode(program: &Path, a: u64, e: u64, payload: &[u8], out_len: usize)
         "encode",
         (a, e, out_len),
         &lists,
-        |numbers, out| reference::encode(numbers, payload, out),
+        |numbers, out| uncounted(reference::encode(numbers, payload, out)),
     );
 }
 
-fn assert_decode(program: &Path, a: u64, e: u64, soft: &[i32], out_len: usize) {
+fn assert_decode(program: &Path, a: u64, e: u64, soft: &[i32], out_len: usize) -> usize {
     let lists = [list(soft)];
     assert_call(
         program,
@@ -101,7 +111,7 @@ fn assert_decode(program: &Path, a: u64, e: u64, soft: &[i32], out_len: usize) {
         (a, e, out_len),
         &lists,
         |numbers, out| reference::decode(numbers, soft, out),
-    );
+    )
 }
 
 fn assert_loopback(program: &Path, a: u64, e: u64, inputs: (&[u8], &[i32]), out_len: usize) {
@@ -118,25 +128,24 @@ fn assert_loopback(program: &Path, a: u64, e: u64, inputs: (&[u8], &[i32]), out_
 
 fn assert_describe(program: &Path, a: u64, e: u64, out_len: usize) {
     assert_call(program, "describe", (a, e, out_len), &[], |_, out| {
-        reference::describe(a, e, out)
+        uncounted(reference::describe(a, e, out))
     });
 }
 
 /// A search of the program must print what the reference gives for it, with as many candidates as
-/// there are, with a count of them, and with the list as numbers.
-fn assert_search(program: &Path, search: &Search) {
+/// there are, with a count of them, and with the list as numbers. Gives its noise count.
+fn assert_search(program: &Path, search: &Search) -> usize {
     let region = list(&search.region[..search.region_len]);
     let numbers = &search.list[..search.list_len];
-    let Outcome { number, place, out } = search.reference();
-    let digits: String = out.iter().map(u8::to_string).collect();
-    let expected = format!("{number} {place} {digits}\n");
+    let expected = search.reference();
     let ask = |name: &str, count: &[String]| {
         // A, E, RNTI and n_RNTI are not used.
-        let (n_id, out_len) = (search.n_id.to_string(), out.len().to_string());
+        let (n_id, out_len) = (search.n_id.to_string(), expected.out.len().to_string());
         let numbers_of_call = [name, "0", "0", "0", &n_id, "0", &out_len].map(String::from);
         let inputs = [region.clone(), list(numbers)];
         let arguments = [&numbers_of_call[..], &inputs, count].concat();
-        assert_eq!(printed(program, &arguments), expected, "{arguments:?}");
+        let said = printed(program, &arguments);
+        assert_eq!(said, line(&expected), "{arguments:?}");
     };
     ask("list", &[]);
     if numbers.len() % NUMBERS == 0 {
@@ -156,10 +165,12 @@ fn assert_search(program: &Path, search: &Search) {
             ask("search", &[count.to_string()]);
         }
     }
+    expected.noise
 }
 
 fn assert_searches(program: &Path, random: &mut Random) {
     let all = places(64);
+    let mut counted = 0;
     for last in [0, 1, 9, 43] {
         let mut region = Region::noise(64, random);
         let candidates: Vec<_> = (0..=last)
@@ -171,6 +182,9 @@ fn assert_searches(program: &Path, random: &mut Random) {
         region.send(&candidates[last], random);
         search.region = region.values;
         assert_search(program, &search);
+        let wrong = &mut search.region[span(&candidates[last])][7];
+        *wrong = -wrong.signum();
+        counted += assert_search(program, &search);
         search.out.pop();
         assert_search(program, &search);
         search.list_len -= 1;
@@ -178,6 +192,7 @@ fn assert_searches(program: &Path, random: &mut Random) {
         search.region_len -= 1;
         assert_search(program, &search);
     }
+    assert_eq!(counted, 4);
     assert_wrong_counts(program, random);
 }
 
@@ -219,6 +234,7 @@ fn assert_coding(program: &Path, random: &mut Random) {
 }
 
 fn assert_decoding(program: &Path, random: &mut Random) {
+    let mut counted = 0;
     for (a, e) in PAIRS {
         let mut coded = vec![0; e as usize];
         let payload = random.bits(a as usize);
@@ -228,7 +244,12 @@ fn assert_decoding(program: &Path, random: &mut Random) {
         assert_decode(program, a, e, &soft, a as usize);
         let noise: Vec<i32> = soft.iter().map(|value| value * random.sign()).collect();
         assert_decode(program, a, e, &noise, a as usize);
+        let mut wrong = soft;
+        wrong[7] = -wrong[7].signum();
+        counted += assert_decode(program, a, e, &wrong, a as usize);
     }
+    // All but A = 84 at E = 108, which has no room for a wrong value.
+    assert_eq!(counted, PAIRS.len() - 1);
     let mut soft = vec![-127; 216];
     assert_decode(program, u64::MAX, 216, &soft, 40);
     assert_decode(program, 40, 217, &soft, 40);
@@ -268,6 +289,23 @@ fn assert_describing(program: &Path) {
     assert_describe(program, 40, 216, 0);
 }
 
+/// The macros take their own bits of an answer, whatever stands beside them.
+fn assert_parts(program: &Path) {
+    let most = 0xFFFF;
+    for number in [0, 6, 255] {
+        for place in [0, 43, 256, most] {
+            for noise in [0, 1, 256, 1728, most] {
+                for behind in [0, 0xFF_FFFF] {
+                    let answer: u64 = number | place << 8 | noise << 24 | behind << 40;
+                    let said = printed(program, &["parts".into(), answer.to_string()]);
+                    let expected = format!("{number} {place} {place} {noise}\n");
+                    assert_eq!(said, expected, "{answer:#x}");
+                }
+            }
+        }
+    }
+}
+
 fn assert_language(compiler: &str, language: &[&str], name: &str) {
     let program = build(compiler, language, name);
     let numbers = printed(&program, &["numbers".into()]);
@@ -281,6 +319,7 @@ fn assert_language(compiler: &str, language: &[&str], name: &str) {
     let version = env!("CARGO_PKG_VERSION");
     let said = printed(&program, &["version".into()]);
     assert_eq!(said, format!("{version} {version}\n"));
+    assert_parts(&program);
     let mut random = Random::new(SEED);
     assert_coding(&program, &mut random);
     assert_decoding(&program, &mut random);
@@ -312,6 +351,8 @@ size_t place(uint64_t r);
 size_t place(uint64_t r) { return SPELT_PLACE(r); }
 size_t candidate(uint64_t r);
 size_t candidate(uint64_t r) { return SPELT_CANDIDATE(r); }
+size_t noise(uint64_t r);
+size_t noise(uint64_t r) { return SPELT_NOISE(r); }
 uint64_t search(const int32_t *region, size_t cces, const spelt_candidate *list,
                 size_t count, uint8_t *out);
 uint64_t search(const int32_t *region, size_t cces, const spelt_candidate *list,

@@ -83,15 +83,23 @@ fn what_is_installed_builds_the_examples() {
         [env!("CARGO_PKG_VERSION")]
     );
 
-    for name in ["roundtrip.c", "search.c"] {
+    let examples = [
+        ("roundtrip.c", "31 of 216 soft values\n"),
+        ("search.c", "56 of 432 soft values wrong\n"),
+    ];
+    for (name, noise) in examples {
         let example = room.join(name);
         fs::copy(root().join("examples/c").join(name), &example).expect("the example");
         let said = built(&example, &prefix);
+        assert!(said.contains(noise), "{said}");
         assert!(said.ends_with("another RNTI: no message\n"), "{said}");
     }
     let shown = room.join("readme.c");
     fs::write(&shown, program_of_readme()).expect("a file");
-    assert_eq!(built(&shown, &prefix), "a message\ncandidate 1\n");
+    assert_eq!(
+        built(&shown, &prefix),
+        "a message, 1 of 432 soft values wrong\ncandidate 1\n"
+    );
 
     made("uninstall", &prefix);
     assert_eq!(files_in(&prefix), 0);

@@ -63,11 +63,8 @@ fn every_n_rnti_gives_the_payload() {
         let mut call = fitting(12, 108, &mut random);
         call.numbers.n_rnti = n_rnti;
         let outcome = call.library();
-        assert_eq!(
-            (outcome.number, &outcome.out),
-            (0, &call.payload),
-            "{call:?}"
-        );
+        let answer = (outcome.number, outcome.noise);
+        assert_eq!((answer, &outcome.out), ((0, 0), &call.payload), "{call:?}");
     }
 }
 

@@ -103,6 +103,8 @@ fn recorded_message_is_read_through_errors() {
             .for_each(|value| *value = 0);
         let outcome = Decode::fitting(numbers, soft, &mut random).compared();
         assert_eq!((outcome.number, &outcome.out), (0, &payload), "{call:?}");
+        // 48 were turned, and of these the 9 at 36, 81, .. then made 0.
+        assert_eq!(outcome.noise, 48 - 9, "{call:?}");
     }
 }
 

@@ -3,12 +3,12 @@
 //!
 //! `make robust` shows what was given; CALLS and SEED make the run longer or another.
 
-use conformance::calls::{answer, second};
+use conformance::calls::{second, uncounted};
 use conformance::faults::FAR;
-use conformance::{Outcome, Random, accepted_pairs, rows, searches, setting, trials};
-use reference::CODED_LENGTHS;
+use conformance::{Outcome, Random, accepted_pairs, library, rows, setting, trials};
 use reference::searching::NUMBERS;
-use speltfeather::{Candidate, Numbers};
+use reference::{Answer, CODED_LENGTHS};
+use speltfeather::Numbers;
 use std::ops::Range;
 use std::sync::atomic::{AtomicU64, Ordering};
 use std::thread;
@@ -32,7 +32,7 @@ struct Inputs<'a> {
     numbers: Numbers,
     payload: &'a [u8],
     values: &'a [i32],
-    list: &'a [Candidate],
+    list: &'a [u32],
 }
 
 /// The lengths that a call asks for; none for what it does not read.
@@ -50,9 +50,9 @@ struct Subject {
     asks: fn(&Numbers) -> Asked,
     /// Values that it takes, as many as are wanted.
     values: fn(&Numbers, usize, &mut Random) -> Vec<i32>,
-    list: fn(&Numbers, &mut Random) -> Vec<Candidate>,
-    library: fn(Inputs, &mut [u8]) -> (u8, usize),
-    reference: fn(Inputs, &mut [u8]) -> (u8, usize),
+    list: fn(&Numbers, &mut Random) -> Vec<u32>,
+    library: fn(Inputs, &mut [u8]) -> Answer,
+    reference: fn(Inputs, &mut [u8]) -> Answer,
 }
 
 const SUBJECTS: [Subject; 5] = [
@@ -66,8 +66,8 @@ const SUBJECTS: [Subject; 5] = [
         },
         values: |_, _, _| vec![],
         list: |_, _| vec![],
-        library: |x, out| answer(speltfeather::encode(&x.numbers, x.payload, out)),
-        reference: |x, out| reference::encode(&second(&x.numbers), x.payload, out),
+        library: |x, out| library::encode(&x.numbers, x.payload, out),
+        reference: |x, out| uncounted(reference::encode(&second(&x.numbers), x.payload, out)),
     },
     Subject {
         name: "decode",
@@ -79,7 +79,7 @@ const SUBJECTS: [Subject; 5] = [
         },
         values: soft_values,
         list: |_, _| vec![],
-        library: |x, out| answer(speltfeather::decode(&x.numbers, x.values, out)),
+        library: |x, out| library::decode(&x.numbers, x.values, out),
         reference: |x, out| reference::decode(&second(&x.numbers), x.values, out),
     },
     Subject {
@@ -92,7 +92,7 @@ const SUBJECTS: [Subject; 5] = [
         },
         values: |_, count, random| rows::strengths(count, random),
         list: |_, _| vec![],
-        library: |x, out| answer(speltfeather::loopback(&x.numbers, x.payload, x.values, out)),
+        library: |x, out| library::loopback(&x.numbers, x.payload, x.values, out),
         reference: |x, out| reference::loopback(&second(&x.numbers), x.payload, x.values, out),
     },
     Subject {
@@ -105,8 +105,8 @@ const SUBJECTS: [Subject; 5] = [
         },
         values: |_, _, _| vec![],
         list: |_, _| vec![],
-        library: |x, out| answer(speltfeather::describe(x.numbers.a, x.numbers.e, out)),
-        reference: |x, out| reference::describe(x.numbers.a, x.numbers.e, out),
+        library: |x, out| library::describe(x.numbers.a, x.numbers.e, out),
+        reference: |x, out| uncounted(reference::describe(x.numbers.a, x.numbers.e, out)),
     },
     Subject {
         name: "search",
@@ -118,15 +118,8 @@ const SUBJECTS: [Subject; 5] = [
         },
         values: region,
         list: candidates,
-        library: |x, out| match speltfeather::search(x.numbers.n_id, x.values, x.list, out) {
-            Ok(found) => (0, found.candidate),
-            Err(refusal) => (refusal.number(), 0),
-        },
-        reference: |x, out| {
-            let list = searches::flat(x.list);
-            let (number, candidate, _) = reference::search(x.numbers.n_id, x.values, &list, out);
-            (number, candidate)
-        },
+        library: |x, out| library::search(x.numbers.n_id, x.values, x.list, out),
+        reference: |x, out| reference::search(x.numbers.n_id, x.values, x.list, out).0,
     },
 ];
 
@@ -219,7 +212,7 @@ fn region(numbers: &Numbers, count: usize, random: &mut Random) -> Vec<i32> {
 const FAR_STEPS: [u32; 6] = [1, 2, 1 << 16, 1 << 30, 1 << 31, u32::MAX];
 
 /// The message of the region, or one that misses it by a number, near it or any.
-fn candidates(numbers: &Numbers, random: &mut Random) -> Vec<Candidate> {
+fn candidates(numbers: &Numbers, random: &mut Random) -> Vec<u32> {
     let level = (numbers.e / 108) as u32;
     let right = [
         u32::from(numbers.n_id & 1) * level,
@@ -238,13 +231,13 @@ fn candidates(numbers: &Numbers, random: &mut Random) -> Vec<Candidate> {
                 _ => random.below(150) as u32,
             };
         }
-        searches::candidate(numbers)
+        numbers
     };
     let count = match random.below(64) {
         0..4 => random.between(44, 60),
         _ => random.between(0, 6),
     };
-    (0..count).map(|_| candidate(random)).collect()
+    (0..count).flat_map(|_| candidate(random)).collect()
 }
 
 /// Mostly values that the call takes; else any, everywhere or at a place.
@@ -269,7 +262,7 @@ struct Case {
     numbers: Numbers,
     payload: Vec<u8>,
     values: Vec<i32>,
-    list: Vec<Candidate>,
+    list: Vec<u32>,
     out: Vec<u8>,
 }
 
@@ -298,8 +291,7 @@ impl Case {
             values: &self.values,
             list: &self.list,
         };
-        let (number, place) = (subject.reference)(inputs, &mut out);
-        Outcome { number, place, out }
+        Outcome::of((subject.reference)(inputs, &mut out), out)
     }
 
     /// What the library gives. Its buffers stand at any address, and nothing but the output may
@@ -307,8 +299,7 @@ impl Case {
     fn library(&self, subject: &Subject, random: &mut Random) -> Outcome {
         let payload = Room::of(&self.payload, GUARD, random);
         let values = Room::of(&self.values, i32::from(GUARD), random);
-        let guard = searches::candidate([NUMBER_GUARD; NUMBERS]);
-        let list = Room::of(&self.list, guard, random);
+        let list = Room::of(&self.list, NUMBER_GUARD, random);
         let mut out = Room::of(&self.out, GUARD, random);
         let inputs = Inputs {
             numbers: self.numbers,
@@ -316,7 +307,7 @@ impl Case {
             values: values.content(),
             list: list.content(),
         };
-        let (number, place) = (subject.library)(inputs, out.content_mut());
+        let answer = (subject.library)(inputs, out.content_mut());
         assert!(payload.guards_hold(), "written beside the payload");
         assert!(values.guards_hold(), "written beside the values");
         assert!(list.guards_hold(), "written beside the list");
@@ -324,8 +315,7 @@ impl Case {
         assert_eq!(payload.content(), self.payload, "the payload is written");
         assert_eq!(values.content(), self.values, "the values are written");
         assert_eq!(list.content(), self.list, "the list is written");
-        let out = out.content().to_vec();
-        Outcome { number, place, out }
+        Outcome::of(answer, out.content().to_vec())
     }
 }
 

@@ -2,7 +2,7 @@
 
 use conformance::faults::BAD;
 use conformance::searches::{
-    FAR, any_at, assert_passed_over, at, candidate, in_front, is_decoded, with_message,
+    FAR, any_at, assert_passed_over, at, candidate, decoded_noise, in_front, with_message,
 };
 use conformance::{Call, Outcome, Random, Region, Search, assert_threads_agree};
 use reference::searching::{CANDIDATES, CCE, CCES, LEVELS, NUMBERS, Place, places};
@@ -419,11 +419,15 @@ fn search_is_the_first_candidate_that_decode_accepts() {
         }
         let search = Search::of(&region, &list, &mut random);
         let outcome = search.library();
-        let first = list
+        let decoded = list
             .iter()
-            .position(|candidate| is_decoded(&region, candidate));
+            .map(|candidate| decoded_noise(&region, candidate));
+        let first = decoded.enumerate().find_map(|(i, noise)| Some((i, noise?)));
         match first {
-            Some(i) => assert_eq!((outcome.number, outcome.place), (0, i), "{search:?}"),
+            Some((i, noise)) => {
+                let found = (outcome.number, outcome.place, outcome.noise);
+                assert_eq!(found, (0, i, noise), "{search:?}");
+            }
             None => assert_eq!(outcome, search.refused(8, 0), "{search:?}"),
         }
         found += usize::from(first.is_some());
