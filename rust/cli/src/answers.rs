@@ -17,7 +17,7 @@ pub const ANSWERS: [Answer; 9] = [
         c: "SPELT_DONE",
         rust: "Ok",
         meaning: "done: the output holds E bits (coding) or A bits (decoding); searching: its first A \
-                  bytes, and the candidate is named",
+                  bytes, and the candidate is named; decoding and searching: the noise count as well",
     },
     Answer {
         number: 1,

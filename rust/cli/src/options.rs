@@ -1,4 +1,4 @@
-//! The command line: options with a value each, and at most one operand.
+//! The command line: options with a value, flags without one, and at most one operand.
 
 use crate::failure::Failure;
 use crate::text::{number, shown};
@@ -7,17 +7,24 @@ use std::borrow::Cow;
 use std::ffi::{OsStr, OsString};
 use std::os::unix::ffi::OsStrExt;
 
-/// An option or an operand, what must be given for it, and its lines of the help.
+/// An option or an operand, and its lines of the help.
 #[derive(Debug)]
 pub struct Known {
     pub name: &'static str,
-    pub expected: &'static str,
+    /// What must be given for it; none for a flag, which has no value.
+    pub value: Option<&'static str>,
     pub help: &'static str,
+}
+
+impl Known {
+    fn expected(&self) -> &'static str {
+        self.value.unwrap_or("no value")
+    }
 }
 
 pub const SIZE: Known = Known {
     name: "--size",
-    expected: "the payload size in bits, 12 to 140",
+    value: Some("the payload size in bits, 12 to 140"),
     help: "\
 --size A      payload size in bits, 12 to 140; the 24 parity bits are not
                 counted
@@ -25,14 +32,14 @@ pub const SIZE: Known = Known {
 };
 pub const LENGTH: Known = Known {
     name: "--length",
-    expected: "the coded length in bits: 108, 216, 432, 864 or 1728",
+    value: Some("the coded length in bits: 108, 216, 432, 864 or 1728"),
     help: "\
 --length E    coded length in bits: 108, 216, 432, 864 or 1728
 ",
 };
 pub const LEVEL: Known = Known {
     name: "--level",
-    expected: "the aggregation level: 1, 2, 4, 8 or 16",
+    value: Some("the aggregation level: 1, 2, 4, 8 or 16"),
     help: "\
 --level L     in place of --length: aggregation level 1, 2, 4, 8 or 16, which
                 is the coded length 108 L
@@ -40,7 +47,7 @@ pub const LEVEL: Known = Known {
 };
 pub const RNTI: Known = Known {
     name: "--rnti",
-    expected: "the radio number, 0 to 65535, such as 65535 or 0xffff",
+    value: Some("the radio number, 0 to 65535, such as 65535 or 0xffff"),
     help: "\
 --rnti R      radio number (RNTI), 0 to 65535: decimal, or hexadecimal after
                 0x
@@ -48,14 +55,14 @@ pub const RNTI: Known = Known {
 };
 pub const ID: Known = Known {
     name: "--id",
-    expected: "the scrambling identity, 0 to 65535",
+    value: Some("the scrambling identity, 0 to 65535"),
     help: "\
 --id N        scrambling identity n_ID, 0 to 65535
 ",
 };
 pub const N_RNTI: Known = Known {
     name: "--n-rnti",
-    expected: "n_RNTI, 0 to 65535, such as 17921 or 0x4601",
+    value: Some("n_RNTI, 0 to 65535, such as 17921 or 0x4601"),
     help: "\
 --n-rnti C    n_RNTI, 0 to 65535, decimal or hexadecimal after 0x. In a
                 user-specific (UE-specific) search space with a configured
@@ -65,7 +72,7 @@ pub const N_RNTI: Known = Known {
 };
 pub const PAYLOAD: Known = Known {
     name: "--payload",
-    expected: "the payload, in bits or in hexadecimal digits",
+    value: Some("the payload, in bits or in hexadecimal digits"),
     help: "\
 --payload P   the payload, first bit first: A bits, or the hexadecimal digits
                 that they fill, A/4 rounded up, with zeros behind the last bit.
@@ -82,7 +89,8 @@ const LEVELS: [(&str, u64); 5] = [("1", 108), ("2", 216), ("4", 432), ("8", 864)
 /// What stood on the command line.
 #[derive(Debug, Default)]
 pub struct Options {
-    /// These and the operand are left as they were given, since a file's name need not be text.
+    /// These and the operand are left as they were given, since a file's name need not be text. A
+    /// flag's value is empty.
     values: Vec<(&'static str, OsString)>,
     pub operand: Option<OsString>,
 }
@@ -91,7 +99,8 @@ impl Options {
     /// Reads the words behind the command's name. Behind `--` each is an operand.
     ///
     /// # Errors
-    /// An option that is not known, stands twice or has no value; an operand that is not taken.
+    /// An option that is not known, stands twice or has no value; a flag that has one; an operand that
+    /// is not taken.
     pub fn read(
         known: &[&Known],
         operand: Option<&Known>,
@@ -113,7 +122,7 @@ impl Options {
         Ok(options)
     }
 
-    /// Takes an option with its value, which is the next word if it is not in the same.
+    /// Takes an option with its value, which is the next word if it is not in the same; or a flag.
     fn take_option<'a>(
         &mut self,
         known: &[&Known],
@@ -123,8 +132,12 @@ impl Options {
         let (name, inline) = split(word);
         let option = known.iter().find(|option| option.name == name);
         let option = option.ok_or_else(|| unknown(&name, known))?;
-        let Some(value) = inline.or_else(|| words.next().cloned()) else {
-            return Err(wrong(&format!("{name} has no value"), option));
+        let value = match option.value {
+            None if inline.is_some() => return Err(wrong(&shown(word), option)),
+            None => OsString::new(),
+            Some(_) => inline
+                .or_else(|| words.next().cloned())
+                .ok_or_else(|| wrong(&format!("{name} has no value"), option))?,
         };
         if self.value(option).is_some() {
             return Err(Failure::Usage(format!(
@@ -146,12 +159,17 @@ impl Options {
                 self.operand = Some(word.to_owned());
                 return Ok(());
             }
-            Some(operand) => operand.expected,
+            Some(operand) => operand.expected(),
             None if known.is_empty() => "nothing behind the command",
             None => "an option; a value with spaces in it stands in quotes",
         };
         let word = shown(word);
         Err(Failure::Usage(format!("`{word}`: expected {expected}")))
+    }
+
+    /// Whether a flag was given.
+    pub fn has(&self, flag: &Known) -> bool {
+        self.value(flag).is_some()
     }
 
     /// The value of an option, if it was given.
@@ -205,7 +223,8 @@ impl Options {
             )),
             (None, None) => Err(Failure::Usage(format!(
                 "--length is missing: expected {}; or --level with {}",
-                LENGTH.expected, LEVEL.expected
+                LENGTH.expected(),
+                LEVEL.expected()
             ))),
         }
     }
@@ -259,7 +278,7 @@ fn split(word: &OsStr) -> (Cow<'_, str>, Option<OsString>) {
 
 /// A complaint that names the option and what was expected.
 fn wrong(subject: &str, option: &Known) -> Failure {
-    Failure::Usage(format!("{subject}: expected {}", option.expected))
+    Failure::Usage(format!("{subject}: expected {}", option.expected()))
 }
 
 fn unknown(name: &str, known: &[&Known]) -> Failure {

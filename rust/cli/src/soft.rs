@@ -39,6 +39,11 @@ pub fn values(soft: &[Soft]) -> Vec<i32> {
     soft.iter().map(|soft| soft.value).collect()
 }
 
+/// The noise count of a row of so many values, as a row of a table.
+pub fn noise(count: usize, values: usize) -> String {
+    format!("noise count              {count} of {values} soft values")
+}
+
 /// What is said besides where no message was found in values that look like bits; else nothing.
 pub fn hint(soft: &[Soft]) -> &'static str {
     let is_bit = |soft: &Soft| matches!(soft.value, 0 | 1);

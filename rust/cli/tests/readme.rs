@@ -44,7 +44,7 @@ fn the_session_is_true() {
     let room = Path::new(env!("CARGO_TARGET_TMPDIR")).join("session");
     fs::create_dir_all(&room).expect("a directory");
     let session = session();
-    for command in ["dci encode", "dci decode", "dci search"] {
+    for command in ["dci encode", "dci decode", "dci search", "--report"] {
         let is_shown = session.iter().any(|(line, _)| line.contains(command));
         assert!(is_shown, "{command}");
     }

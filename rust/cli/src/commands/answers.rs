@@ -11,7 +11,8 @@ pub const COMMAND: Command = Command {
     usage: "",
     notes: "\
 The numbers are tested in their order, and the first that applies is given. On
-every number but 0 the output buffer holds what it held before the call.
+every number but 0 the output buffer holds what it held before the call, and the
+noise count is 0.
 ",
     options: &[],
     operand: None,

@@ -9,7 +9,7 @@ use speltfeather::{Numbers, Refusal};
 
 const AS: Known = Known {
     name: "--as",
-    expected: "hex, bits, strip or soft",
+    value: Some("hex, bits, strip or soft"),
     help: "\
 --as FORM     how to print the coded bits, first bit first:
                 hex    hexadecimal digits, the default

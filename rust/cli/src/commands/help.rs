@@ -6,7 +6,7 @@ use crate::options::{Known, Options};
 
 const NAME: Known = Known {
     name: "COMMAND",
-    expected: "one command",
+    value: Some("one command"),
     help: "\
 COMMAND       the command to explain; if there is none, all are listed
 ",

@@ -9,7 +9,7 @@ use speltfeather::{Code, RateMatching, Role};
 
 const AS: Known = Known {
     name: "--as",
-    expected: "both, table, strip or csv",
+    value: Some("both, table, strip or csv"),
     help: "\
 --as FORM     what to print:
                 both   the table and then the strip, the default

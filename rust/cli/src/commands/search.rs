@@ -6,13 +6,13 @@ use crate::failure::Failure;
 use crate::inputs::{self, Input};
 use crate::options::{self, ID, Known, Options};
 use crate::searching::Search;
-use crate::text;
-use speltfeather::{CCE, Candidate, MAX_PAYLOAD};
+use crate::{soft, text};
+use speltfeather::{CCE, Candidate, Found, MAX_PAYLOAD};
 use std::ffi::OsStr;
 
 const CANDIDATES: Known = Known {
     name: "--candidates",
-    expected: "the file with the candidates, or - for standard input",
+    value: Some("the file with the candidates, or - for standard input"),
     help: "\
 --candidates LIST
                 the file with the candidates, or - for standard input
@@ -21,7 +21,7 @@ const CANDIDATES: Known = Known {
 
 const N_RNTI: Known = Known {
     name: options::N_RNTI.name,
-    expected: options::N_RNTI.expected,
+    value: options::N_RNTI.value,
     help: "\
 --n-rnti C    n_RNTI of the candidates whose line has none, 0 to 65535; 0 if
                 it is left out
@@ -30,20 +30,21 @@ const N_RNTI: Known = Known {
 
 const AS: Known = Known {
     name: "--as",
-    expected: "table, csv, hex or bits",
+    value: Some("table, csv, hex or bits"),
     help: "\
 --as FORM     what to print:
                 table  the candidate, its numbers, the payload in hexadecimal
-                       digits, and where it lay; the default
+                       digits, where it lay, and the noise count; the default
                 csv    the same as a line with commas, below a line of names
-                hex    the payload alone, as `dci decode` prints it
-                bits   the payload alone, in digits 0 and 1
+                hex    the payload, and the noise count on a second line, as
+                       `dci decode --report` prints them
+                bits   the same, the payload in digits 0 and 1
 ",
 };
 
 const FILE: Known = Known {
     name: "FILE",
-    expected: "one file",
+    value: Some("one file"),
     help: "\
 FILE          the soft values of the region, 108 for each CCE, the first CCE
                 first; standard input if there is none, or -
@@ -79,6 +80,11 @@ A message of level 16 may also decode at level 8 with the same first CCE, and
 one of level 8 at level 16: the first in the list is shown. Each candidate that
 is tried takes noise for a message about once in 2^24 times.
 
+The noise count is how many soft values of the candidate shown are not 0 and
+have the wrong sign for their bit of its payload coded again. It is 0 without
+noise. It is held against the payload that was accepted, whether or not that one
+was sent.
+
 example: a region of 16 CCEs with a message in CCEs 4 to 7, and zeros, which say
 nothing, around it
   { yes 0 | head -n 432
@@ -103,8 +109,7 @@ output cannot be written
 
 /// What was found.
 struct Shown<'a> {
-    /// The place in the list, from 0.
-    place: usize,
+    found: Found<'a>,
     listed: Listed,
     source: &'a str,
     payload: &'a [u8],
@@ -118,8 +123,10 @@ fn run(options: &Options) -> Result<String, Failure> {
     let forms: [(&str, Form); 4] = [
         ("table", table),
         ("csv", csv),
-        ("hex", |shown| vec![text::hex(shown.payload)]),
-        ("bits", |shown| vec![text::digits(shown.payload)]),
+        ("hex", |shown| vec![text::hex(shown.payload), noise(shown)]),
+        ("bits", |shown| {
+            vec![text::digits(shown.payload), noise(shown)]
+        }),
     ];
     let form = options.choice(&AS, &forms)?;
     let (list, region) = read(options)?;
@@ -128,10 +135,10 @@ fn run(options: &Options) -> Result<String, Failure> {
     let found = speltfeather::search(n_id, &search.values, &search.candidates(), &mut payload)
         .map_err(|refusal| Failure::Answer(refusal, search.explained(refusal)))?;
     Ok(text::joined(&form(&Shown {
-        place: found.candidate,
         listed: search.list[found.candidate],
         source: &search.source,
         payload: &payload[..found.size],
+        found,
     })))
 }
 
@@ -155,10 +162,15 @@ fn place(candidate: &Candidate) -> [(usize, usize); 2] {
     [(first, end - 1), (CCE * first, CCE * end - 1)]
 }
 
+/// The noise count, as `dci decode --report` prints it.
+fn noise(shown: &Shown) -> String {
+    soft::noise(shown.found.noise, shown.found.stretch.len())
+}
+
 fn table(shown: &Shown) -> Vec<String> {
     let Listed { candidate, line } = shown.listed;
     let [cces, values] = place(&candidate).map(|(first, last)| text::ranges(first..=last).concat());
-    let (place, source) = (shown.place, shown.source);
+    let (place, source) = (shown.found.candidate, shown.source);
     vec![
         format!("candidate                {place}, counted from 0: line {line} of {source}"),
         format!("first CCE                {}", candidate.first_cce),
@@ -169,6 +181,7 @@ fn table(shown: &Shown) -> Vec<String> {
         format!("payload                  {}", text::hex(shown.payload)),
         format!("CCEs                     {cces}"),
         format!("soft values              {values}"),
+        noise(shown),
     ]
 }
 
@@ -182,13 +195,15 @@ fn csv(shown: &Shown) -> Vec<String> {
         ..
     } = candidate;
     let [(cce, last_cce), (value, last_value)] = place(&candidate);
-    let (place, payload) = (shown.place, text::hex(shown.payload));
+    let (place, noise) = (shown.found.candidate, shown.found.noise);
+    let payload = text::hex(shown.payload);
     vec![
-        "candidate,line,first_cce,last_cce,level,size,rnti,n_rnti,payload,first_value,last_value"
+        "candidate,line,first_cce,last_cce,level,size,rnti,n_rnti,payload,first_value,last_value,\
+         noise"
             .into(),
         format!(
             "{place},{line},{cce},{last_cce},{level},{a},0x{rnti:04x},0x{n_rnti:04x},{payload},\
-             {value},{last_value}"
+             {value},{last_value},{noise}"
         ),
     ]
 }

@@ -41,7 +41,9 @@ fn decoded_beside(name: &str, more: &str) -> Run {
 
 #[test]
 fn behind_two_dashes_a_name_may_begin_with_one() {
-    for name in ["-row.txt", "--size", "--help", "-h", "--", "row.txt"] {
+    for name in [
+        "-row.txt", "--size", "--report", "--help", "-h", "--", "row.txt",
+    ] {
         let run = decoded_beside(name, &format!("-- {name}"));
         assert_eq!((run.status, &run.out[..]), (0, "5400a00000\n"), "{name}");
     }

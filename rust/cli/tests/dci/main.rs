@@ -3,6 +3,7 @@
 mod files;
 mod levels;
 mod n_rnti;
+mod noise;
 mod payloads;
 mod run;
 mod search;

@@ -79,3 +79,8 @@ pub fn assert_refused(line: &str, input: &str, status: i32, said: &[&str]) {
 pub fn soft_row() -> String {
     printed(&format!("encode {NUMBERS} {SIB1} --as soft"), "")
 }
+
+/// What is printed where the noise count stands below a payload.
+pub fn with_noise(payload: &str, count: usize, values: usize) -> String {
+    format!("{payload}\nnoise count              {count} of {values} soft values\n")
+}

@@ -1,6 +1,7 @@
 //! The search of a region: what is found and shown, and what is wrong with a region or a list.
 
-use crate::run::{PROGRAM, Run, assert_refused, assert_said, printed, run, words};
+use crate::SIB1_BITS;
+use crate::run::{PROGRAM, Run, assert_refused, assert_said, printed, run, with_noise, words};
 use std::ffi::{OsStr, OsString};
 use std::fs;
 use std::os::unix::ffi::{OsStrExt, OsStringExt};
@@ -20,10 +21,10 @@ const MESSAGES: [(usize, &str, &str); 4] = [
     ),
 ];
 const SIB1: &str = "4 4 37 0xffff\n";
-const SEARCH: &str = "search --id 500 --candidates list.txt region.txt";
+pub const SEARCH: &str = "search --id 500 --candidates list.txt region.txt";
 
 /// The region as text: a line for each CCE, zeros where there is no message.
-fn region() -> Vec<String> {
+pub fn region() -> Vec<String> {
     let mut cces = vec!["0 ".repeat(108); 16];
     for (first, numbers, payload) in MESSAGES {
         let line = format!("encode {numbers} --id 500 --payload {payload} --as soft");
@@ -37,7 +38,7 @@ fn region() -> Vec<String> {
 }
 
 /// A directory of one test's own, with the region and this list.
-fn room(test: &str, region: &[String], list: &str) -> PathBuf {
+pub fn room(test: &str, region: &[String], list: &str) -> PathBuf {
     let room = Path::new(env!("CARGO_TARGET_TMPDIR")).join(format!("search-{test}"));
     fs::create_dir_all(&room).expect("a directory");
     fs::write(room.join("region.txt"), region.join("\n")).expect("a file for the region");
@@ -46,7 +47,7 @@ fn room(test: &str, region: &[String], list: &str) -> PathBuf {
 }
 
 /// Runs a line of words in a room.
-fn run_in(room: &Path, line: &str, input: &str) -> Run {
+pub fn run_in(room: &Path, line: &str, input: &str) -> Run {
     let mut command = Command::new(PROGRAM);
     run(command.current_dir(room).args(words(line)), input)
 }
@@ -56,7 +57,7 @@ fn searched(test: &str, region: &[String], list: &str) -> Run {
     run_in(&room(test, region, list), SEARCH, "")
 }
 
-fn assert_printed(run: &Run, printed: &str) {
+pub fn assert_printed(run: &Run, printed: &str) {
     let Run { status, out, err } = run;
     assert_eq!((*status, &out[..], &err[..]), (0, printed, ""));
 }
@@ -76,17 +77,18 @@ n_RNTI                   0x0000
 payload                  5400a00000
 CCEs                     4-7
 soft values              432-863
+noise count              0 of 432 soft values
 ";
     assert_printed(&run_in(&room, SEARCH, ""), table);
     for (form, shown) in [
         ("table", table),
         (
             "csv",
-            "candidate,line,first_cce,last_cce,level,size,rnti,n_rnti,payload,first_value,last_value\n\
-             1,4,4,7,4,37,0xffff,0x0000,5400a00000,432,863\n",
+            "candidate,line,first_cce,last_cce,level,size,rnti,n_rnti,payload,first_value,last_value,\
+             noise\n1,4,4,7,4,37,0xffff,0x0000,5400a00000,432,863,0\n",
         ),
-        ("hex", "5400a00000\n"),
-        ("bits", "0101010000000000101000000000000000000\n"),
+        ("hex", &with_noise("5400a00000", 0, 432)),
+        ("bits", &with_noise(SIB1_BITS, 0, 432)),
     ] {
         assert_printed(&run_in(&room, &format!("{SEARCH} --as {form}"), ""), shown);
     }
@@ -105,28 +107,28 @@ fn each_message_is_found_by_its_own_numbers() {
     for (list, shown) in [
         (
             "1 1 40 0x4601",
-            "0,1,1,1,1,40,0x4601,0x0000,0123456789,108,215",
+            "0,1,1,1,1,40,0x4601,0x0000,0123456789,108,215,0",
         ),
         (
             "1 1 40 17921 0",
-            "0,1,1,1,1,40,0x4601,0x0000,0123456789,108,215",
+            "0,1,1,1,1,40,0x4601,0x0000,0123456789,108,215,0",
         ),
         (
             "0x4 0X4 0x25 0xFFFF 0X8000",
-            "0,1,4,7,4,37,0xffff,0x8000,5400a00000,432,863",
+            "0,1,4,7,4,37,0xffff,0x8000,5400a00000,432,863,0",
         ),
-        ("8 2 12 7", "0,1,8,9,2,12,0x0007,0x0000,abc,864,1079"),
+        ("8 2 12 7", "0,1,8,9,2,12,0x0007,0x0000,abc,864,1079,0"),
         (
             "8 2 12 7\n1 1 40 0x4601",
-            "0,1,8,9,2,12,0x0007,0x0000,abc,864,1079",
+            "0,1,8,9,2,12,0x0007,0x0000,abc,864,1079,0",
         ),
         (
             "1 1 40 0x4601\n8 2 12 7",
-            "0,1,1,1,1,40,0x4601,0x0000,0123456789,108,215",
+            "0,1,1,1,1,40,0x4601,0x0000,0123456789,108,215,0",
         ),
         (
             "10 2 40 0x4601 22274",
-            "0,1,10,11,2,40,0x4601,0x5702,fedcba9876,1080,1295",
+            "0,1,10,11,2,40,0x4601,0x5702,fedcba9876,1080,1295,0",
         ),
     ] {
         let room = room("each", &region, list);
@@ -156,6 +158,7 @@ n_RNTI                   0x5702
 payload                  fedcba9876
 CCEs                     10-11
 soft values              1080-1295
+noise count              0 of 216 soft values
 ";
     assert_printed(&searched("specific", &region, &list), table);
 }
@@ -165,12 +168,16 @@ fn a_line_without_n_rnti_has_that_of_the_option() {
     let region = region();
     // The message to all is behind the handset's own, and has n_RNTI 0 in its line.
     let own = room("option", &region, "10 2 40 0x4601\n4 4 37 0xffff 0");
+    let [specific, common] = [
+        with_noise("fedcba9876", 0, 216),
+        with_noise("5400a00000", 0, 432),
+    ];
     for (option, payload) in [
-        ("--n-rnti 0x5702", "fedcba9876\n"),
-        ("--n-rnti 0xd702", "fedcba9876\n"),
-        ("--n-rnti 0x5703", "5400a00000\n"),
-        ("--n-rnti 0", "5400a00000\n"),
-        ("", "5400a00000\n"),
+        ("--n-rnti 0x5702", &specific),
+        ("--n-rnti 0xd702", &specific),
+        ("--n-rnti 0x5703", &common),
+        ("--n-rnti 0", &common),
+        ("", &common),
     ] {
         let line = format!("{SEARCH} --as hex {option}");
         assert_printed(&run_in(&own, &line, ""), payload);
@@ -188,7 +195,7 @@ fn the_values_that_are_named_decode() {
     let found = run_in(&room, &format!("{SEARCH} --as csv"), "").out;
     let fields: Vec<&str> = found.trim().rsplit(',').collect();
     let place = |field: &str| field.parse::<usize>().expect("a place");
-    let (first, last) = (place(fields[1]), place(fields[0]));
+    let (first, last) = (place(fields[2]), place(fields[1]));
     let values = region.join(" ");
     let values: Vec<&str> = values.split_whitespace().collect();
     let row = values[first..=last].join(" ");
@@ -209,7 +216,8 @@ fn either_may_come_from_standard_input() {
         ("--candidates list.txt -", &values),
     ] {
         let line = format!("search --id 500 --as hex {line}");
-        assert_printed(&run_in(&room, &line, input), "5400a00000\n");
+        let found = run_in(&room, &line, input);
+        assert_printed(&found, &with_noise("5400a00000", 0, 432));
     }
     for more in ["", "-"] {
         let line = format!("search --id 500 --candidates - {more}");
@@ -313,7 +321,7 @@ fn a_value_out_of_range_bars_its_own_candidates_alone() {
     let room = room("range", &region, list);
     assert_printed(
         &run_in(&room, &format!("{SEARCH} --as hex"), ""),
-        "0123456789\n",
+        &with_noise("0123456789", 0, 108),
     );
     let run = searched("range", &region, "0 2 40 0x4601");
     let said = ["(soft value 1 of the region is 128, in its line 1: expected -127 to 127)"];
@@ -352,7 +360,7 @@ fn it_is_said_which_of_the_two_has_a_wrong_length() {
     }
     let room = room("lengths", &many[..64], &list(44));
     let found = run_in(&room, &format!("{SEARCH} --as csv"), "");
-    let shown = "43,44,0,0,1,40,0x4601,0x0000,0123456789,0,107";
+    let shown = "43,44,0,0,1,40,0x4601,0x0000,0123456789,0,107,0";
     assert_eq!(found.out.lines().nth(1), Some(shown));
 }
 
@@ -422,7 +430,8 @@ fn the_name_of_a_list_need_not_be_text() {
         let mut command = Command::new(PROGRAM);
         command.current_dir(&room);
         command.args(words("search --id 500 --as hex region.txt"));
-        assert_printed(&run(command.args(given), ""), "5400a00000\n");
+        let found = run(command.args(given), "");
+        assert_printed(&found, &with_noise("5400a00000", 0, 432));
     }
 }
 
@@ -471,10 +480,20 @@ fn the_example_of_the_help_is_true() {
         "{}",
         shown.out
     );
-    let clean = fs::read_to_string(room.join("region.txt")).expect("the region");
-    let noisy = fs::read_to_string(room.join("noisy.txt")).expect("the region in noise");
-    assert_eq!(clean.split_whitespace().count(), 16 * 108);
-    assert_ne!(noisy, clean);
+    let [clean, noisy] = ["region.txt", "noisy.txt"].map(|name| {
+        let text = fs::read_to_string(room.join(name)).expect("a region");
+        let values = text.split_whitespace().map(|word| word.parse::<i32>());
+        values.collect::<Result<Vec<i32>, _>>().expect("numbers")
+    });
+    assert_eq!((clean.len(), noisy.len()), (16 * 108, 16 * 108));
     let search = "search --id 1 --as hex --candidates - noisy.txt";
-    assert_printed(&run_in(&room, search, SIB1), "5400a00000\n");
+    let found = run_in(&room, search, SIB1);
+    // Around the message the clean values are 0.
+    let count = clean
+        .iter()
+        .zip(&noisy)
+        .filter(|(c, n)| *c * *n < 0)
+        .count();
+    assert!(count > 0);
+    assert_printed(&found, &with_noise("5400a00000", count, 432));
 }

@@ -5,6 +5,7 @@
 use channel::{Channel, Random};
 use cli::{answers, picture, text};
 use speltfeather::{Numbers, Refusal, decode, encode, loopback};
+use std::fmt::Debug;
 use std::io::{self, Write};
 
 /// Prints a line. That nobody reads on, as after `| head`, is no error.
@@ -68,34 +69,54 @@ fn show_coding(payload: &[u8]) -> Vec<u8> {
 
 fn show_noise(payload: &[u8], coded: &[u8]) {
     say!("\n2. Through white noise and back, QPSK, {MESSAGES} times at each strength\n");
-    say!("      SNR   signs wrong   the first one's answer                 read");
+    say!("      SNR   signs wrong   the first one's answer                     read");
     let mut random = Random::new(SEED);
+    let mut read_of_all = 0;
     for snr in STRENGTHS {
         let channel = Channel::at(snr);
         let rows: Vec<Vec<i32>> = (0..MESSAGES)
             .map(|_| channel.received(coded, &mut random))
             .collect();
-        let read = rows.iter().filter(|soft| reads(payload, soft)).count();
-        let signs = rows[0].iter().zip(coded);
-        let wrong = signs.filter(|&(&v, &bit)| (v < 0) != (bit == 1)).count();
+        let read = rows.iter().filter(|soft| reads(payload, coded, soft));
+        let read = read.count();
+        read_of_all += read;
         say!(
-            "   {snr:>+4.0} dB   {wrong:>3} of 432    {:<36} {read:>4} of {MESSAGES}",
+            "   {snr:>+4.0} dB   {:>3} of 432    {:<40} {read:>4} of {MESSAGES}",
+            wrong_signs(coded, &rows[0]),
             answered(&NUMBERS, &rows[0])
         );
     }
+    say!(
+        "\n   The noise count is against the payload that was read, the signs wrong against what was"
+    );
+    say!("   sent: they agree in each of the {read_of_all} messages read.");
+}
+
+/// How many soft values have the wrong sign for what was sent; 0 has none.
+fn wrong_signs(coded: &[u8], soft: &[i32]) -> usize {
+    let is_wrong = |&(&bit, &value): &(&u8, &i32)| if bit == 0 { value < 0 } else { value > 0 };
+    coded.iter().zip(soft).filter(is_wrong).count()
 }
 
 /// Whether the row gives the payload. A row that gives another would be a false alarm.
-fn reads(payload: &[u8], soft: &[i32]) -> bool {
+fn reads(payload: &[u8], coded: &[u8], soft: &[i32]) -> bool {
     let mut out = vec![0; payload.len()];
-    decode(&NUMBERS, soft, &mut out).is_ok() && out == payload
+    let answer = decode(&NUMBERS, soft, &mut out);
+    let Some(reading) = answer.ok().filter(|_| out == payload) else {
+        return false;
+    };
+    assert_eq!(reading.noise, wrong_signs(coded, soft), "the noise count");
+    true
 }
 
-/// The answer to a row, with the payload or what the number means.
+/// The answer to a row, with the payload and the noise count, or what the number means.
 fn answered(numbers: &Numbers, soft: &[i32]) -> String {
     let mut out = vec![0; numbers.a as usize];
     match decode(numbers, soft, &mut out) {
-        Ok(()) => format!("0, payload {}", text::hex(&out)),
+        Ok(reading) => {
+            let payload = text::hex(&out);
+            format!("0, payload {payload}, noise count {}", reading.noise)
+        }
         Err(refusal) => format!("{}, {refusal}", refusal.number()),
     }
 }
@@ -133,7 +154,7 @@ fn show_refusals(payload: &[u8], coded: &[u8]) {
     assert!(out.iter().all(|&byte| byte == 9), "a refusal wrote");
 }
 
-fn show_refusal(call: &str, answer: Result<(), Refusal>) {
+fn show_refusal(call: &str, answer: Result<impl Debug, Refusal>) {
     let refusal = answer.expect_err("a call that must be refused");
     let place = match refusal {
         Refusal::BadEntry(place) => format!(" (place {place})"),
@@ -161,9 +182,9 @@ fn show_self_test() {
         let payload = random.bits(a as usize);
         let strengths: Vec<i32> = (0..e).map(|_| random.between(1, 127)).collect();
         let mut out = vec![9; a as usize];
-        loopback(&numbers, &payload, &strengths, &mut out).expect("promise 3");
-        assert_eq!(out, payload, "promise 3");
+        let reading = loopback(&numbers, &payload, &strengths, &mut out).expect("promise 3");
+        assert_eq!((&out, reading.noise), (&payload, 0), "promise 3");
         passed += 1;
     }
-    say!("   {passed} pairs of size and length: each gave 0 and its payload");
+    say!("   {passed} pairs of size and length: each gave 0, its payload and the noise count 0");
 }

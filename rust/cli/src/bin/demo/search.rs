@@ -101,6 +101,8 @@ fn show_found(found: &Found, candidate: &Candidate, payload: &[u8]) {
         "   lay in   {}, soft values {values} of the region",
         cces(candidate)
     );
+    let (noise, values) = (found.noise, found.stretch.len());
+    say!("   noise    count {noise}, of {values} soft values");
 }
 
 /// The announcement of SIB1, the handset's message, and that of another handset.
