@@ -342,6 +342,15 @@ static void descramble(uint16_t n_id, uint16_t n_rnti, const int32_t *soft,
     }
 }
 
+/* How many values are not 0 and have the wrong sign for their bit. */
+static uint64_t noise(const int32_t *values, const uint8_t *bits, size_t e)
+{
+    uint32_t count = 0;
+    for (size_t i = 0; i < e; i++)
+        count += bits[i] ? values[i] > 0 : values[i] < 0;
+    return count;
+}
+
 static uint64_t encode(uint64_t a, uint64_t e, uint16_t rnti, uint16_t n_id,
                        uint16_t n_rnti,
                        const uint8_t *payload, size_t payload_len,
@@ -377,7 +386,7 @@ static uint64_t decode(uint64_t a, uint64_t e, uint16_t rnti, uint16_t n_id,
 
     int32_t values[MOST_E], d[MOST_N], work[MOST_N];
     uint8_t barred[MOST_N], chosen[MOST_N], u[MOST_N], v[MOST_N];
-    uint8_t row[MOST_K], c[MOST_K];
+    uint8_t row[MOST_K], c[MOST_K], again[MOST_E];
     size_t k = a + PARITY;
     size_t n = code_length(k, e);
     kind matching = rate_matching(k, e, n);
@@ -391,7 +400,9 @@ static uint64_t decode(uint64_t a, uint64_t e, uint16_t rnti, uint16_t n_id,
     if (!parity_matches(c, a, rnti))
         return SPELT_PARITY_MISMATCH;
     memcpy(out, c, a);
-    return SPELT_DONE;
+    /* v is the payload coded again, and the values are not scrambled either. */
+    match(matching, v, n, e, again);
+    return SPELT_DONE + (noise(values, again, e) << 24);
 }
 
 /* By the types of the interface's own calls, so that they cannot differ. */

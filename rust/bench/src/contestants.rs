@@ -1,8 +1,9 @@
 //! The programs that are timed, and the messages that they are given.
 
 use channel::{Random, received};
-use conformance::calls::second;
+use conformance::calls::{second, uncounted};
 use conformance::trials;
+use reference::Answer;
 use speltfeather::{Numbers, Refusal};
 
 /// A call with the types of the interface: the input is bits or soft values.
@@ -23,22 +24,28 @@ pub struct Message<T> {
     pub out: Vec<u8>,
 }
 
-pub type Contestant<T> = fn(&Numbers, &[T], &mut [u8]);
+/// What a call gives: the noise count, or the number that it refuses with.
+pub type Given = Result<usize, u8>;
+
+pub type Contestant<T> = fn(&Numbers, &[T], &mut [u8]) -> Given;
 
 pub type Contestants<T, const N: usize> = [Contestant<T>; N];
 
 /// The library, plain C with 1 and with 16 terms of the Gold sequence at a time, and the reference.
 pub const CODERS: Contestants<u8, 4> = [
-    |numbers, payload, out| library(speltfeather::encode(numbers, payload, out)),
+    |numbers, payload, out| library(speltfeather::encode(numbers, payload, out).map(|()| 0)),
     // SAFETY: a constant of plain.c.
     |numbers, payload, out| call(unsafe { plain_encode_1 }, numbers, payload, out),
     // SAFETY: a constant of plain.c.
     |numbers, payload, out| call(unsafe { plain_encode_16 }, numbers, payload, out),
-    |numbers, payload, out| reference(reference::encode(&second(numbers), payload, out)),
+    |numbers, payload, out| {
+        let answer = reference::encode(&second(numbers), payload, out);
+        reference(uncounted(answer))
+    },
 ];
 
 pub const DECODERS: Contestants<i32, 4> = [
-    |numbers, soft, out| library(speltfeather::decode(numbers, soft, out)),
+    |numbers, soft, out| library(speltfeather::decode(numbers, soft, out).map(|read| read.noise)),
     // SAFETY: a constant of plain.c.
     |numbers, soft, out| call(unsafe { plain_decode_1 }, numbers, soft, out),
     // SAFETY: a constant of plain.c.
@@ -46,16 +53,28 @@ pub const DECODERS: Contestants<i32, 4> = [
     |numbers, soft, out| reference(reference::decode(&second(numbers), soft, out)),
 ];
 
-fn library(answer: Result<(), Refusal>) {
-    answer.expect("an accepted call");
+fn library(answer: Result<usize, Refusal>) -> Given {
+    answer.map_err(|refusal| refusal.number())
 }
 
-fn reference(answer: (u8, usize)) {
-    assert_eq!(answer, (0, 0), "an accepted call");
+fn reference((number, _, noise): Answer) -> Given {
+    given(number, noise)
 }
 
-/// Makes a call that must give 0.
-pub fn call<T>(call: Plain<T>, numbers: &Numbers, input: &[T], out: &mut [u8]) {
+fn given(number: u8, noise: usize) -> Given {
+    match number {
+        0 => Ok(noise),
+        _ => Err(number),
+    }
+}
+
+/// What an answer of the interface says.
+pub fn said(answer: u64) -> Given {
+    given(answer as u8, (answer >> 24) as usize)
+}
+
+/// Makes a call.
+pub fn call<T>(call: Plain<T>, numbers: &Numbers, input: &[T], out: &mut [u8]) -> Given {
     // SAFETY: the pointers come from two slices and stand with their lengths.
     let answer = unsafe {
         call(
@@ -70,7 +89,7 @@ pub fn call<T>(call: Plain<T>, numbers: &Numbers, input: &[T], out: &mut [u8]) {
             out.len(),
         )
     };
-    assert_eq!(answer, 0, "an accepted call");
+    said(answer)
 }
 
 /// A random payload to be coded.
@@ -91,6 +110,15 @@ pub fn to_decode(numbers: Numbers, random: &mut Random) -> Message<i32> {
     }
 }
 
+/// The same for another RNTI, so that the parity does not match.
+pub fn to_refuse(numbers: Numbers, random: &mut Random) -> Message<i32> {
+    let mut message = to_decode(numbers, random);
+    message.numbers.rnti ^= 1;
+    let refused = speltfeather::decode(&message.numbers, &message.input, &mut message.out);
+    assert_eq!(refused, Err(Refusal::ParityMismatch));
+    message
+}
+
 /// The soft values of such a payload.
 pub fn accepted(numbers: &Numbers, random: &mut Random) -> Vec<i32> {
     let Numbers { a, e, .. } = *numbers;
@@ -105,7 +133,7 @@ pub fn accepted(numbers: &Numbers, random: &mut Random) -> Vec<i32> {
     }
 }
 
-/// Asserts that all give the same bits.
+/// Asserts that all give the same answer and the same bits.
 pub fn assert_all_equal<T, const N: usize>(
     contestants: &Contestants<T, N>,
     messages: &[Message<T>],
@@ -118,9 +146,8 @@ pub fn assert_all_equal<T, const N: usize>(
     {
         let given = contestants.map(|contestant| {
             let mut out = vec![9; out.len()];
-            contestant(numbers, input, &mut out);
-            out
+            (contestant(numbers, input, &mut out), out)
         });
-        assert!(given.iter().all(|bits| *bits == given[0]), "{numbers:?}");
+        assert!(given.iter().all(|one| *one == given[0]), "{numbers:?}");
     }
 }

@@ -1,7 +1,7 @@
 //! The search beside single decodes of the same candidates under the same numbers, which also stop at
 //! the first that is accepted.
 
-use crate::contestants::{Contestants, Message, accepted};
+use crate::contestants::{Contestants, Given, Message, accepted};
 use crate::{Line, Make, lines_of, timed_lines};
 use channel::{Noise, Random};
 use conformance::searches::{candidate, numbers_of};
@@ -69,48 +69,60 @@ fn round(e: u64) -> &'static [Candidate] {
     list_for(&ROUND, e)
 }
 
-fn searched(list: &[Candidate], n_id: u16, region: &[i32], out: &mut [u8]) -> Option<usize> {
-    let found = speltfeather::search(n_id, region, list, out);
-    found.ok().map(|found| found.candidate)
+/// The candidate that a search of the list finds, and its noise count.
+type Named = Option<(usize, usize)>;
+
+fn searched(list: &[Candidate], n_id: u16, region: &[i32], out: &mut [u8]) -> Named {
+    let found = speltfeather::search(n_id, region, list, out).ok()?;
+    Some((found.candidate, found.noise))
 }
 
-fn decoded(list: &[Candidate], n_id: u16, region: &[i32], out: &mut [u8]) -> Option<usize> {
-    let is_accepted = |candidate: &Candidate| {
+fn decoded(list: &[Candidate], n_id: u16, region: &[i32], out: &mut [u8]) -> Named {
+    let noise = |candidate: &Candidate| {
         let start = CCE * candidate.first_cce as usize;
         let stretch = &region[start..start + CCE * candidate.level as usize];
         let out = &mut out[..candidate.a as usize];
-        decode(&numbers_of(candidate, n_id), stretch, out).is_ok()
+        let reading = decode(&numbers_of(candidate, n_id), stretch, out);
+        reading.ok().map(|reading| reading.noise)
     };
-    list.iter().position(is_accepted)
+    let mut noises = list.iter().map(noise).enumerate();
+    noises.find_map(|(i, noise)| Some((i, noise?)))
+}
+
+/// None may be found.
+fn none(named: Named) -> Given {
+    assert_eq!(named, None);
+    Err(8)
+}
+
+/// The first must be found.
+fn first(named: Named) -> Given {
+    let (candidate, noise) = named.expect("a message");
+    assert_eq!(candidate, 0);
+    Ok(noise)
 }
 
 /// 44 candidates of a level, none of which is accepted.
 const NONE_OF_44: Contestants<i32, 2> = [
-    |numbers, region, out| assert_eq!(searched(round(numbers.e), numbers.n_id, region, out), None),
-    |numbers, region, out| assert_eq!(decoded(round(numbers.e), numbers.n_id, region, out), None),
+    |numbers, region, out| none(searched(round(numbers.e), numbers.n_id, region, out)),
+    |numbers, region, out| none(decoded(round(numbers.e), numbers.n_id, region, out)),
 ];
 
 /// The same, and the first is accepted.
 const FIRST_OF_44: Contestants<i32, 2> = [
-    |numbers, region, out| {
-        let found = searched(round(numbers.e), numbers.n_id, region, out);
-        assert_eq!(found, Some(0));
-    },
-    |numbers, region, out| {
-        let found = decoded(round(numbers.e), numbers.n_id, region, out);
-        assert_eq!(found, Some(0));
-    },
+    |numbers, region, out| first(searched(round(numbers.e), numbers.n_id, region, out)),
+    |numbers, region, out| first(decoded(round(numbers.e), numbers.n_id, region, out)),
 ];
 
 /// A handset's list, of which none is accepted.
 const NONE_OF_HANDSET: Contestants<i32, 2> = [
     |numbers, region, out| {
         let list = list_for(&HANDSETS, numbers.e);
-        assert_eq!(searched(list, numbers.n_id, region, out), None);
+        none(searched(list, numbers.n_id, region, out))
     },
     |numbers, region, out| {
         let list = list_for(&HANDSETS, numbers.e);
-        assert_eq!(decoded(list, numbers.n_id, region, out), None);
+        none(decoded(list, numbers.n_id, region, out))
     },
 ];
 
