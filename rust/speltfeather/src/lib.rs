@@ -40,6 +40,9 @@
 //! [`search`] looks for a message at a list of candidates. [`describe`], and [`Code`] over it, tell what
 //! each position of a code is for.
 
+mod c;
+
+use c::{spelt_decode, spelt_describe, spelt_encode, spelt_loopback, spelt_search_list};
 use std::error::Error;
 use std::fmt;
 
@@ -126,58 +129,6 @@ pub struct Reading {
     /// The noise count: how many of the E soft values are not 0 and have the wrong sign for their bit of
     /// the payload coded again. 0 for a row without noise, and never above E.
     pub noise: usize,
-}
-
-unsafe extern "C" {
-    fn spelt_encode(
-        a: u64,
-        e: u64,
-        rnti: u16,
-        n_id: u16,
-        n_rnti: u16,
-        payload: *const u8,
-        payload_len: usize,
-        out: *mut u8,
-        out_len: usize,
-    ) -> u64;
-
-    fn spelt_decode(
-        a: u64,
-        e: u64,
-        rnti: u16,
-        n_id: u16,
-        n_rnti: u16,
-        soft: *const i32,
-        soft_len: usize,
-        out: *mut u8,
-        out_len: usize,
-    ) -> u64;
-
-    fn spelt_loopback(
-        a: u64,
-        e: u64,
-        rnti: u16,
-        n_id: u16,
-        n_rnti: u16,
-        payload: *const u8,
-        payload_len: usize,
-        strengths: *const i32,
-        strengths_len: usize,
-        out: *mut u8,
-        out_len: usize,
-    ) -> u64;
-
-    fn spelt_search_list(
-        n_id: u16,
-        region: *const i32,
-        region_len: usize,
-        candidates: *const u32,
-        candidates_len: usize,
-        out: *mut u8,
-        out_len: usize,
-    ) -> u64;
-
-    fn spelt_describe(a: u64, e: u64, out: *mut u8, out_len: usize) -> u64;
 }
 
 /// Codes `payload` into `out`: CRC, RNTI, input interleaver, polar code, rate matching, scrambling.

@@ -1,64 +1,16 @@
 //! The library's calls, each made twice: as the header declares it, with the answer taken apart to its
 //! last bit, and through the wrapper, which must say the same and leave the same in the buffer.
 
+// The wrapper's own declarations: it keeps them to itself.
+#[path = "../../speltfeather/src/c.rs"]
+mod c;
+
 use crate::searches::{candidates, span};
+use c::{spelt_decode, spelt_describe, spelt_encode, spelt_loopback, spelt_search_list};
 use reference::Answer;
 use reference::searching::NUMBERS;
 use speltfeather::{Numbers, Refusal};
 use std::ptr;
-
-unsafe extern "C" {
-    fn spelt_encode(
-        a: u64,
-        e: u64,
-        rnti: u16,
-        n_id: u16,
-        n_rnti: u16,
-        payload: *const u8,
-        payload_len: usize,
-        out: *mut u8,
-        out_len: usize,
-    ) -> u64;
-
-    fn spelt_decode(
-        a: u64,
-        e: u64,
-        rnti: u16,
-        n_id: u16,
-        n_rnti: u16,
-        soft: *const i32,
-        soft_len: usize,
-        out: *mut u8,
-        out_len: usize,
-    ) -> u64;
-
-    fn spelt_loopback(
-        a: u64,
-        e: u64,
-        rnti: u16,
-        n_id: u16,
-        n_rnti: u16,
-        payload: *const u8,
-        payload_len: usize,
-        strengths: *const i32,
-        strengths_len: usize,
-        out: *mut u8,
-        out_len: usize,
-    ) -> u64;
-
-    fn spelt_describe(a: u64, e: u64, out: *mut u8, out_len: usize) -> u64;
-
-    // What the header's `spelt_search` and the wrapper's `search` both hand over to.
-    fn spelt_search_list(
-        n_id: u16,
-        region: *const i32,
-        region_len: usize,
-        candidates: *const u32,
-        candidates_len: usize,
-        out: *mut u8,
-        out_len: usize,
-    ) -> u64;
-}
 
 /// What the wrapper gives: the candidate, or 0, with the noise count, or 0.
 type Wrapped = Result<(usize, usize), Refusal>;
