@@ -1,4 +1,6 @@
 // What several steps do with a row of bytes or of soft values.
+#![tactic(auto)]
+
 ghost use Rattle.std.specs.Prelude.{◌≡◌, length, replicate};
 
 // `to` becomes `from`.
