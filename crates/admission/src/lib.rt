@@ -1,5 +1,7 @@
 // Which positions of a code may carry information (38.212 5.3.1, 5.4.1): n, the kind of rate matching, and the window that admits
 // what is below N and not barred.
+#![tactic(auto)]
+
 ghost use Rattle.std.specs.Prelude.{◌≡◌, true, ℕ, ◌+◌, ◌≤◌, ◌<◌, ◌^◌};
 ghost use Rattle.nr.specs.Rows.{has};
 ghost use Rattle.nr.specs.Answer.{lengths};

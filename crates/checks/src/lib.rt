@@ -1,4 +1,6 @@
 // What a call refuses before it does its work: by its sizes, and by the entries of its inputs.
+#![tactic(auto)]
+
 ghost use Rattle.std.specs.Prelude.{◌≡◌};
 ghost use Rattle.nr.specs.Rows.{first, has};
 ghost use Rattle.nr.specs.Answer.{lengths};

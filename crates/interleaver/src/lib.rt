@@ -1,4 +1,6 @@
 // The input interleaver (38.212 5.3.1.1).
+#![tactic(auto)]
+
 mod table;
 
 ghost use Rattle.std.specs.Prelude.{◌≡◌, ◌≤◌, length};

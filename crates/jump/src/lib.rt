@@ -1,5 +1,7 @@
 // The jump over the 1,600 terms that 38.211 5.2.1 leaves out before it takes the sequence. Both registers are linear: each bit after
 // the jump is the parity of the register before it under a fixed mask.
+#![tactic(auto)]
+
 mod masks;
 
 ghost use Rattle.std.specs.Prelude.{◌≡◌, ◌<◌, ◌^◌, length};

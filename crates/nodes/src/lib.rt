@@ -1,4 +1,6 @@
 // What the successive decoder works out from one or two soft values: f, g and the decision of a single position.
+#![tactic(auto)]
+
 ghost use Rattle.std.specs.Prelude.{◌≡◌, min, pos, nat_abs};
 ghost use Rattle.nr.specs.SuccessiveDecoder.{f, g, decide};
 ghost use Rattle.nodes.specs.Small.{Small};

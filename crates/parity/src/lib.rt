@@ -1,5 +1,7 @@
 // CRC attachment and the RNTI (38.212 7.3.2). The parity register and the RNTI are numbers; shifts and masks take out their
 // bits, most significant first.
+#![tactic(auto)]
+
 ghost use Rattle.std.specs.Prelude.{◌≡◌, ◌+◌, ◌-◌, ◌<◌, ◌≤◌, ◌^◌, length};
 ghost use Rattle.nr.specs.Rows.{msb_first, Bits};
 ghost use Rattle.nr.specs.Parity.{parity, attach, mask_rnti, parity_matches};

@@ -1,5 +1,7 @@
 // Polar coding of a row of bits: each bit at its information position, then the transform, in place: stages of growing blocks,
 // each of which adds second halves to first halves.
+#![tactic(auto)]
+
 ghost use Rattle.std.specs.Prelude.{◌≡◌, ◌++◌, ◌*◌, ◌/◌, ◌%◌, ◌^◌, ◌<◌, length, take, drop, replicate};
 ghost use Rattle.nr.specs.Rows.{xors, Bits};
 ghost use Rattle.nr.specs.Transform.{transform};

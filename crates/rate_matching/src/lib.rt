@@ -1,4 +1,6 @@
 // Rate matching (38.212 5.4.1): the code word in sub-block order, and of it the bits that are sent; and undone in soft values.
+#![tactic(auto)]
+
 ghost use Rattle.std.specs.Prelude.{◌≡◌, map, ◌≤◌, ◌<◌, ◌%◌, ◌^◌, pos, length, replicate};
 ghost use Rattle.nr.specs.Rows.{count, entries, Within};
 ghost use Rattle.nr.specs.Construction.{P};

@@ -1,4 +1,6 @@
 // Scrambling: the Gold sequence of 38.211 5.2.1 added to a row of bits, 16 terms at a time, and undone in a row of soft values.
+#![tactic(auto)]
+
 ghost use Rattle.std.specs.Prelude.{◌≡◌, ◌≤◌, ◌<◌, ◌^◌, nat_abs, length};
 ghost use Rattle.nr.specs.Rows.{xors, Bits, Within};
 ghost use Rattle.nr.specs.Scrambling.{step1, step2, after, terms, gold, c_init};

@@ -1,0 +1,18 @@
+-- `checks::first_bad` meets its contract.
+-- Assumes nothing.
+use Prim.Native.Nat.{ℕ, ◌+◌, ◌-◌, ◌≤◌}
+use native.Mathlib.Omega.{arith}
+use mathlib.Core.Path.{◌≡◌, ap}
+use lib.ListN.{length, get_or, drop}
+use lib.Seq.{drop-length}
+use borrow.Author.Tests.{lt-ltb, le-ltb}
+use Rattle.nr.specs.Rows.{first}
+use Rattle.nr.specs.Coding.{bad_byte}
+use Rattle.nr.proofs.Refusals.{first-hit, first-miss}
+use Rattle.checks.proofs.first_bad.Given as goal
+
+abbrev pub invariant-loop-i : goal.invariant-loop-i
+invariant-loop-i l = (l.i ≤ length l.payload) × (first bad_byte l.payload ≡ l.i + first bad_byte (drop l.i l.payload))
+
+abbrev pub decreases-loop-i : goal.decreases-loop-i
+decreases-loop-i l = length l.payload - l.i

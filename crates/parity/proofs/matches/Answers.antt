@@ -1,0 +1,19 @@
+-- `parity::matches` meets its contract.
+-- Assumes nothing.
+use Prim.Native.Nat.{ℕ, ◌-◌}
+use native.Mathlib.Omega.{arith}
+use mathlib.Core.Path.{subst}
+use mathlib.Core.List.{List}
+use lib.ListN.{length}
+use Rattle.parity.specs.Register.{Holds}
+use Rattle.parity.proofs.Register.{rest, matched}
+use Rattle.parity.proofs.matches.Goals as goal
+
+pub returns : goal.returns
+returns c =
+    let w = c.before.before in
+    let s = w.before.before.before in
+    let row = s.args.row.now in
+    let A = length row - 24 in
+    matched A row c.parity.result w.read_bits-last.result s.args.rnti (omega arith) s.requires.1 c.parity.ensures
+    (subst (λ (r : List ℕ). Holds r w.read_bits-last.result) (rest A row) w.read_bits-last.ensures) s.ranges.rnti.fits
