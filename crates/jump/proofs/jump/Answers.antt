@@ -13,7 +13,7 @@ use Rattle.jump.proofs.Parities.{jumped-lt}
 use Rattle.jump.proofs.jump.Goals as goal
 use Rattle.jump.proofs.jump.Goals.{In-loop-i}
 
-room : (c : In-loop-i) → c.loop-i.r-1 < 2 ^ 30
+room : (c : In-loop-i) → c.loop-i.r < 2 ^ 30
 room c =
     let t = c.loop-i in
     let masks = c.args.masks.now in

@@ -1,7 +1,6 @@
 -- `jump::x1` meets its contract: its masks pass the test, and from 1 the state is the constant.
 -- Assumes nothing.
 use mathlib.Core.Path.{◌≡◌, refl, sym, ap, ◌∙◌}
-use borrow.Author.Rules.{rules}
 use Rattle.nr.specs.Scrambling.{next1, step1, after}
 use Rattle.nr.proofs.Scrambling.{linear1}
 use Rattle.jump.proofs.Parities.{jumps}

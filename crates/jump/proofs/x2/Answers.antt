@@ -1,7 +1,6 @@
 -- `jump::x2` meets its contract: its masks pass the test.
 -- Assumes nothing.
 use mathlib.Core.Path.{◌∙◌}
-use borrow.Author.Rules.{rules}
 use Rattle.nr.specs.Scrambling.{next2, step2, after}
 use Rattle.nr.proofs.Scrambling.{linear2}
 use Rattle.jump.proofs.Parities.{jumps}

@@ -1,10 +1,9 @@
 -- `polar::combine` meets its contract. The loop's invariant: the first i entries are sums, the rest is as it was.
 -- Assumes nothing.
 use Prim.Native.Nat.{◌-◌, ◌≤◌}
-use native.Mathlib.Omega.{arith}
-use mathlib.Core.Path.{◌≡◌, refl, ◌∙◌}
-use lib.ListN.{length, length-set}
-use Rattle.polar.proofs.Halves.{sums, filled, sum-next, all-filled}
+use mathlib.Core.Path.{◌≡◌}
+use lib.ListN.{length}
+use Rattle.polar.proofs.Halves.{sums, filled}
 use Rattle.polar.proofs.combine.Given as goal
 
 abbrev pub invariant-loop-i : goal.invariant-loop-i

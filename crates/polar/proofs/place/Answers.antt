@@ -1,12 +1,10 @@
 -- `polar::place` meets its contract.
 -- Assumes nothing.
-use Prim.Native.Nat.{ℕ, ◌-◌, ◌≤◌, ◌<◌}
+use Prim.Native.Nat.{ℕ, ◌<◌}
 use native.Mathlib.Omega.{arith}
-use mathlib.Core.Path.{◌≡◌, ap, ap₂, ◌∙◌}
+use mathlib.Core.Path.{◌≡◌, ap, ◌∙◌}
 use mathlib.Core.List.{List}
-use lib.ListN.{length, get_or, set, take}
-use lib.Seq.{take_all}
-use Rattle.nr.specs.Coding.{placed}
+use lib.ListN.{length, get_or, set}
 use Rattle.nr.proofs.Rows.{has_get_d}
 use Rattle.nr.proofs.RoundTrip.{length-placed}
 use Rattle.polar.proofs.Placing.{placed-none, placed-next}

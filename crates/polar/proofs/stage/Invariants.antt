@@ -1,13 +1,11 @@
 -- `polar::stage` meets its contract. The loop's invariant: the blocks before `at` are joined, and joining the others makes what is asked.
 -- Assumes nothing.
-use Prim.Native.Nat.{◌+◌, ◌*◌, ◌/◌, ◌-◌, ◌≤◌}
-use native.Mathlib.Omega.{arith}
-use mathlib.Core.Path.{◌≡◌, refl, ◌∙◌}
-use lib.ListN.{length, length-take, length-drop}
+use Prim.Native.Nat.{◌*◌, ◌/◌, ◌-◌}
+use mathlib.Core.Path.{◌≡◌}
+use lib.ListN.{length}
 use Rattle.nr.specs.Rows.{Bits}
-use Rattle.nr.proofs.Zip.{bits-take, bits-drop}
 use Rattle.polar.specs.Blocks.{joined, each}
-use Rattle.polar.proofs.Blocks.{Left, left-all, room, left-next, left-none, bits-next}
+use Rattle.polar.proofs.Blocks.{Left}
 use Rattle.polar.proofs.stage.Given as goal
 
 abbrev pub invariant-loop-at : goal.invariant-loop-at

@@ -1,8 +1,7 @@
 -- `polar::transform` meets its contract. The loop's invariant: after j stages each block of half = 2 ^ j entries holds its transform.
 -- Assumes nothing.
 use Prim.Native.Nat.{◌-◌}
-use native.Mathlib.Omega.{arith}
-use Rattle.polar.proofs.Stages.{Staged, staged-none, staged-next, staged-all, asked, fits}
+use Rattle.polar.proofs.Stages.{Staged}
 use Rattle.polar.proofs.transform.Given as goal
 
 abbrev pub invariant-loop-j : goal.invariant-loop-j
