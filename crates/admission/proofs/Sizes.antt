@@ -10,7 +10,7 @@ use borrow.Author.Tests.{le-leb, lt-leb, leb-true, leb-false}
 use Rattle.nr.specs.declared.RateMatching.TheVariants.{Repetition, Puncturing, Shortening}
 use Rattle.nr.specs.Rows.{has, all}
 use Rattle.nr.specs.Answer.{lengths}
-use Rattle.nr.specs.Construction.{log2up, n, N, low_rate, rate_matching, exponent}
+use Rattle.nr.specs.Construction.{log2up, N, low_rate, rate_matching, exponent}
 use Rattle.nr.proofs.Tests.{all-has, holds}
 use Rattle.nr.proofs.Construction.{Sized, n-by-length}
 use Rattle.nr.proofs.Refusals.{longest}

@@ -1,13 +1,11 @@
 -- `admission::rank` meets its contract.
 -- Assumes nothing.
 use Prim.Native.Nat.{◌+◌, ◌-◌, ◌*◌, ◌/◌, ◌%◌, ◌^◌}
-use native.Mathlib.Nat.{div-mul-le_self}
 use native.Mathlib.Omega.{arith}
 use mathlib.Core.Path.{◌≡◌, ap}
 use lib.ListN.{length, get_or}
 use Rattle.nr.specs.Construction.{rank}
-use Rattle.admission.proofs.Ranks.{ranks-length, block-lt, block_start, rank_is, rank-fits}
-use borrow.Author.Rules.{rules}
+use Rattle.admission.proofs.Ranks.{ranks-length, block-lt, rank_is}
 use Rattle.admission.proofs.rank.Goals as goal
 use Rattle.admission.proofs.rank.Goals.{Start}
 

@@ -2,7 +2,6 @@
 -- Assumes nothing.
 use native.Mathlib.Omega.{arith}
 use Rattle.admission.proofs.Sizes.{repeats, punctures, shortens}
-use borrow.Author.Rules.{rules}
 use Rattle.admission.proofs.rate_matching.Goals as goal
 
 pub returns-then-len-e : goal.returns-then-len-e

@@ -1,13 +1,10 @@
 -- `scrambling::add_sequence` meets its contract. The loop's invariant: the first `at` entries have their terms added, and the
 -- Assumes nothing.
-use Prim.Native.Nat.{◌+◌, ◌≤◌, ◌-◌}
-use native.Mathlib.Omega.{arith}
-use mathlib.Core.Path.{◌≡◌, refl, ◌∙◌}
-use borrow.Rule.Slice.PartMut.{same_len_mid}
+use Prim.Native.Nat.{◌≤◌, ◌-◌}
+use mathlib.Core.Path.{◌≡◌}
 use lib.ListN.{length}
 use Rattle.nr.specs.Scrambling.{step1, step2, after}
-use Rattle.scrambling.proofs.Ahead.{further}
-use Rattle.scrambling.proofs.Added.{added, added_none, added-all, part-asks, part-added}
+use Rattle.scrambling.proofs.Added.{added}
 use Rattle.scrambling.proofs.add_sequence.Given as goal
 
 abbrev pub invariant-loop-row : goal.invariant-loop-row

@@ -1,13 +1,9 @@
 -- `scrambling::add_terms` meets its contract. The loop's invariant: the first i entries have their terms added.
 -- Assumes nothing.
-use Prim.Native.Nat.{ℕ, ◌≤◌, ◌<◌, ◌-◌}
-use native.Mathlib.Omega.{arith}
-use mathlib.Core.Path.{◌≡◌, refl, ap, ◌∙◌}
-use mathlib.Core.List.{List}
-use lib.Bits.{bit_and, bit_xor, and_le_l}
-use lib.ListN.{length, get_or, length-set}
-use Rattle.scrambling.proofs.Added.{added, added_none, added-one, added-all}
-use Rattle.scrambling.proofs.Nibbles.{read, read-lt, read-bit}
+use Prim.Native.Nat.{◌≤◌, ◌-◌}
+use mathlib.Core.Path.{◌≡◌}
+use lib.ListN.{length}
+use Rattle.scrambling.proofs.Added.{added}
 use Rattle.scrambling.proofs.add_terms.Given as goal
 
 abbrev pub invariant-loop-i : goal.invariant-loop-i

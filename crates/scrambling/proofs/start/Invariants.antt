@@ -1,10 +1,8 @@
 -- `scrambling::start` meets its contract. The loop's invariant: after k turns the registers are 16 * k terms on.
 -- Assumes nothing.
-use Prim.Native.Nat.{◌+◌, ◌≤◌, ◌-◌, ◌*◌}
-use native.Mathlib.Omega.{arith}
-use mathlib.Core.Path.{◌≡◌, refl}
+use Prim.Native.Nat.{◌≤◌, ◌-◌, ◌*◌}
+use mathlib.Core.Path.{◌≡◌}
 use Rattle.nr.specs.Scrambling.{step1, step2, after}
-use Rattle.scrambling.proofs.Ahead.{further}
 use Rattle.scrambling.proofs.start.Given as goal
 
 abbrev pub invariant-loop-k : goal.invariant-loop-k
