@@ -1,11 +1,8 @@
 -- `rate_matching::add_up` meets its contract.
 -- Assumes nothing.
-use Prim.Native.Nat.{◌+◌, ◌-◌}
-use native.Mathlib.Omega.{arith}
-use mathlib.Core.Path.{refl, ◌∙◌}
+use Prim.Native.Nat.{◌-◌}
 use lib.ListN.{length}
-use Rattle.rate_matching.proofs.Summing.{Summing, summing, summing-more, summed, piece-asks}
-use Rattle.rate_matching.proofs.Undoing.{undo-repetition}
+use Rattle.rate_matching.proofs.Summing.{Summing}
 use Rattle.rate_matching.proofs.add_up.Given as goal
 
 abbrev pub invariant-loop-from : goal.invariant-loop-from

@@ -1,11 +1,7 @@
 -- `rate_matching::copy_blocks` meets its contract.
 -- Assumes nothing.
-use Prim.Native.Nat.{ℕ, ◌-◌, ◌*◌}
-use native.Mathlib.Omega.{arith}
-use mathlib.Core.Path.{refl, sym, ap, ◌∙◌}
-use mathlib.Core.List.{List}
-use lib.ListN.{get_or}
-use Rattle.rate_matching.proofs.Moving.{S, Turn, in-turn, equal-parts, blocks-length, coding, Moving, moving, moving-more, code-ordered}
+use Prim.Native.Nat.{◌-◌}
+use Rattle.rate_matching.proofs.Moving.{coding, Moving}
 use Rattle.rate_matching.proofs.copy_blocks.Given as goal
 
 abbrev pub invariant-loop-b : goal.invariant-loop-b

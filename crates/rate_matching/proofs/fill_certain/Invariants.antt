@@ -1,12 +1,9 @@
 -- `rate_matching::fill_certain` meets its contract.
 -- Assumes nothing.
 use Prim.Native.Nat.{◌-◌}
-use native.Mathlib.Omega.{arith}
-use mathlib.Core.Path.{sym}
-use lib.IntN.{pos}
-use lib.ListN.{length, replicate, length-replicate, get_or-replicate}
+use lib.ListN.{length, replicate}
 use Rattle.nr.specs.SuccessiveDecoder.{certain}
-use Rattle.rows.proofs.Filling.{Filling, filling, filling-more, filled, filling-length}
+use Rattle.rows.proofs.Filling.{Filling}
 use Rattle.rate_matching.proofs.fill_certain.Given as goal
 
 abbrev pub invariant-loop-k : goal.invariant-loop-k

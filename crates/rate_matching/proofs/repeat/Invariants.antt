@@ -1,14 +1,10 @@
 -- `rate_matching::repeat` meets its contract.
 -- Assumes nothing.
-use Prim.Native.Nat.{◌+◌, ◌-◌, ◌%◌}
-use native.Mathlib.Nat.{zero-mod, add-mod_right}
-use native.Mathlib.Omega.{arith}
-use mathlib.Core.Path.{◌≡◌, refl, sym, ◌∙◌}
+use Prim.Native.Nat.{◌-◌, ◌%◌}
+use mathlib.Core.Path.{◌≡◌}
 use lib.ListN.{length}
-use lib.Seq.{take_all, length-take-le}
-use borrow.Rule.Slice.PartMut.{mid_len}
-use Rattle.rows.proofs.Filling.{Filling, filling, filled, filling-length}
-use Rattle.rate_matching.proofs.Pieces.{cycle, length-cycle, next-piece}
+use Rattle.rows.proofs.Filling.{Filling}
+use Rattle.rate_matching.proofs.Pieces.{cycle}
 use Rattle.rate_matching.proofs.repeat.Given as goal
 
 abbrev pub invariant-loop-out : goal.invariant-loop-out
