@@ -11,7 +11,7 @@ ghost use Rattle.admission.specs.Window.{ranks, Applies, usable, admits};
 use nr::RateMatching;
 
 // Which positions may carry information: those from `front` on whose rank in the sub-block order is at least `lo` and below `hi`.
-#[derive(Drop)]
+#[derive(Clone, Copy)]
 pub struct Window {
     pub front: usize,
     pub lo: usize,

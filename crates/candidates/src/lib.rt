@@ -1,4 +1,6 @@
 // The candidates of a search: the list, where one may lie, and whether its numbers let it be tried.
+#![tactic(auto)]
+
 ghost use Rattle.std.specs.Prelude.{◌≡◌, ◌+◌, ◌*◌, ◌<◌, length};
 ghost use Rattle.nr.specs.Searching.{fits, candidate_at, sixteen_bits, whole, search_refusal};
 ghost use Rattle.candidates.specs.Tryable.{tryable};

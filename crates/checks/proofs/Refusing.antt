@@ -2,14 +2,11 @@
 -- Assumes nothing.
 use Prim.Native.Nat.{ℕ, suc}
 use native.Mathlib.Omega.{arith}
-use mathlib.Core.Path.{◌≡◌, ap, sym, ◌∙◌}
+use mathlib.Core.Path.{◌≡◌, refl, ap, sym, ◌∙◌}
 use mathlib.Core.Logic.{◌⊎◌}
 use mathlib.Core.Bool.{Bool, true, false, cond}
 use mathlib.Core.List.{List, [], ◌∷◌}
 use lib.Dec.{not_T}
-use types.Run.{OneOf, miss}
-use denote.Enum.Declared.{tag_of}
-use Rattle.nr.specs.contracts.Answer.{the_type}
 use Rattle.nr.specs.declared.Answer.{Answer}
 use Rattle.nr.specs.declared.Answer.TheVariants.{Done, PayloadSize, CodedLength, TooManyBits, InputLength, OutputLength, BadEntry, ParityMismatch}
 use Rattle.nr.specs.Rows.{has}
@@ -38,9 +35,9 @@ module _ {n i : ℕ} {t : Bool} {tests : List Bool} (l : Left n i (t ∷ tests))
 -- ---- an answer's number
 
 -- an answer of the other variants has another number than 0
-pub refused : (r : Answer) → OneOf (1 ∷ 2 ∷ 3 ∷ 4 ∷ 5 ∷ 6 ∷ 7 ∷ []) (tag_of the_type r) → number r ≡ 0 → ⊥
+pub refused : (r : Answer) → (r ≡ Done → ⊥) → number r ≡ 0 → ⊥
 unfolding number
-refused Done t e = miss (1 ∷ 2 ∷ 3 ∷ 4 ∷ 5 ∷ 6 ∷ 7 ∷ []) 0 tt t
+refused Done t e = t refl
 refused PayloadSize t e = omega arith
 refused CodedLength t e = omega arith
 refused TooManyBits t e = omega arith

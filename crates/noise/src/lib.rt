@@ -1,4 +1,6 @@
 // The noise count of a row of soft values against the bits that a code word sends.
+#![tactic(auto)]
+
 ghost use Rattle.std.specs.Prelude.{◌≡◌, cond, ◌≤◌, ◌^◌, length};
 ghost use Rattle.nr.specs.Rows.{xors, Bits};
 ghost use Rattle.nr.specs.RateMatching.{select, Fits};

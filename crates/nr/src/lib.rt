@@ -1,8 +1,9 @@
 // The declared types of document 01's calls. What they mean is defined in specs/.
+#![tactic(auto)]
 
 // The numbers that set a call: payload size A, coded length E, RNTI, scrambling identity n_ID, and n_RNTI, which is 0 where the
 // scrambler starts from n_ID alone.
-#[derive(Drop)]
+#[derive(Clone, Copy)]
 pub struct Numbers {
     pub a: u64,
     pub e: u64,
@@ -12,7 +13,7 @@ pub struct Numbers {
 }
 
 // A candidate of a search: a message that may lie in `level` CCEs from CCE `first` on, its payload size A, its RNTI and its n_RNTI.
-#[derive(Drop)]
+#[derive(Clone, Copy)]
 pub struct Candidate {
     pub first: u32,
     pub level: u32,
@@ -22,7 +23,7 @@ pub struct Candidate {
 }
 
 // How E coded bits are made of N code bits (38.212 5.4.1).
-#[derive(Drop)]
+#[derive(Clone, Copy)]
 pub enum RateMatching {
     Repetition,
     Puncturing,
@@ -30,7 +31,7 @@ pub enum RateMatching {
 }
 
 // What a call answers. `number` and `place_of` of specs/Answer.antt give document 01's number and place for each.
-#[derive(Drop)]
+#[derive(Clone, Copy)]
 pub enum Answer {
     // 0: the output holds the result.
     Done,

@@ -1,5 +1,7 @@
 // A code word sent: from a payload to E scrambled bits, for a code that is given by n, the kind of rate matching and its
 // information positions.
+#![tactic(auto)]
+
 ghost use Rattle.std.specs.Prelude.{◌≡◌, ◌+◌, ◌≤◌, ◌<◌, ◌^◌, length, replicate};
 ghost use Rattle.nr.specs.Rows.{Bits};
 ghost use Rattle.nr.specs.Parity.{attach, mask_rnti};
