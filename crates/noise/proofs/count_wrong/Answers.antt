@@ -1,10 +1,8 @@
 -- `noise::count_wrong` meets its contract. The loop's invariant: the wrong ones of the first k values are counted.
 -- Assumes nothing.
-use Prim.Native.Nat.{◌+◌, ◌-◌}
+use Prim.Native.Nat.{◌+◌}
 use native.Mathlib.Omega.{arith}
-use mathlib.Core.Path.{◌≡◌, refl, ◌∙◌}
-use lib.ListN.{length}
-use borrow.Author.Rules.{rules}
+use mathlib.Core.Path.{◌≡◌, ◌∙◌}
 use Rattle.nr.specs.Rows.{xors}
 use Rattle.noise.proofs.Counting.{counted, counted-le, one_more, all-counted}
 use Rattle.noise.proofs.count_wrong.Goals as goal

@@ -1,12 +1,10 @@
 -- `noise::count_wrong` meets its contract. The loop's invariant: the wrong ones of the first k values are counted.
 -- Assumes nothing.
-use Prim.Native.Nat.{◌+◌, ◌-◌}
-use native.Mathlib.Omega.{arith}
-use mathlib.Core.Path.{◌≡◌, refl, ◌∙◌}
+use Prim.Native.Nat.{◌-◌}
+use mathlib.Core.Path.{◌≡◌}
 use lib.ListN.{length}
-use borrow.Author.Rules.{rules}
 use Rattle.nr.specs.Rows.{xors}
-use Rattle.noise.proofs.Counting.{counted, counted-le, one_more, all-counted}
+use Rattle.noise.proofs.Counting.{counted}
 use Rattle.noise.proofs.count_wrong.Given as goal
 
 abbrev pub invariant-loop-k : goal.invariant-loop-k
