@@ -1,4 +1,6 @@
 // The successive decoder: it calls itself on both halves of a row of soft values, down to a single position.
+#![tactic(auto)]
+
 ghost use Rattle.std.specs.Prelude.{◌≡◌, ◌*◌, ◌≤◌, ◌^◌, length, take, drop};
 ghost use Rattle.nr.specs.Transform.{transform};
 ghost use Rattle.nr.specs.SuccessiveDecoder.{fs, gs, successive};
