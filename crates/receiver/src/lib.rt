@@ -1,5 +1,7 @@
 // A code word received: from E soft values to the row of payload and parity, and the code word that was decided, for a code that is
 // given by n, the kind of rate matching and its information positions, and for the sequence that the row was scrambled with.
+#![tactic(auto)]
+
 ghost use Rattle.std.specs.Prelude.{◌≡◌, ◌≤◌, ◌^◌, length, replicate};
 ghost use Rattle.nr.specs.Rows.{entries, Within};
 ghost use Rattle.nr.specs.Transform.{transform};
