@@ -1,4 +1,6 @@
 // N, the kind of rate matching and what each position is for (38.212 5.3.1, 5.4.1), worked out from A and E.
+#![tactic(auto)]
+
 mod table;
 
 ghost use Rattle.std.specs.Prelude.{◌≡◌, ◌≤◌, ◌^◌, length, replicate, map};
