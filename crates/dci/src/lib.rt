@@ -1,4 +1,6 @@
 // The downlink control message: from payload bits to E scrambled bits, and from E soft values back to the payload.
+#![tactic(auto)]
+
 ghost use Rattle.std.specs.Prelude.{◌≡◌, cond, ◌≤◌, ◌^◌, length};
 ghost use Rattle.nr.specs.Rows.{xors, Bits, Within};
 ghost use Rattle.nr.specs.Numbers.{K};
