@@ -18,7 +18,7 @@ use admission::Window;
 use nr::RateMatching;
 
 // N = 2^n, how E bits are made of the N code bits, and the K information positions, ascending, with 0 past K.
-#[derive(Drop)]
+#[derive(Clone, Copy)]
 pub struct Layout {
     pub n: usize,
     pub kind: RateMatching,

@@ -52,7 +52,7 @@ pub fn encode(numbers: Numbers, payload: &[u8], out: &mut [u8]) -> Answer
 }
 
 // What decoding gives back: the answer, and the noise count.
-#[derive(Drop)]
+#[derive(Clone, Copy)]
 pub struct Decoded {
     pub answer: Answer,
     pub noise: u32,

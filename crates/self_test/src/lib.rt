@@ -1,4 +1,6 @@
 // The self-test: a payload is coded and its noiseless row decoded. Promise 3, run.
+#![tactic(auto)]
+
 ghost use Rattle.std.specs.Prelude.{◌≡◌, ◌≤◌, length};
 ghost use Rattle.nr.specs.Answer.{given, reading};
 ghost use Rattle.nr.specs.Loopback.{looped, Loops};
