@@ -12,7 +12,9 @@ type Crates = Vec<(String, Vec<String>)>;
 
 fn crates() -> Crates {
     let entry = |line: &str| {
-        let (name, rest) = line.split_once(':').expect("a crate and what it needs");
+        let (head, rest) = line.split_once(':').expect("a crate and what it needs");
+        // Behind the name may stand what is built of the crate, as `staticlib`.
+        let name = head.split_whitespace().next().expect("the crate's name");
         let needs = rest.split_whitespace().map(str::to_string).collect();
         (name.to_string(), needs)
     };

@@ -142,7 +142,7 @@ fn without_the_toolchain_make_says_what_is_needed() {
         assert!(!output.status.success(), "{target}");
         assert!(output.stdout.is_empty(), "{target}");
         assert_eq!(said.lines().count(), 1, "{target}: {said}");
-        let named = ["rt", "Rattle toolchain", "rattle-kit-5b-plain"];
+        let named = ["rt", "Rattle toolchain", "rattle-kit-13f"];
         assert!(named.iter().all(|word| said.contains(word)), "{said}");
     }
 }
