@@ -1,42 +1,36 @@
 -- `self_test::sign` meets its contract.
 -- Assumes nothing.
 use Prim.Native.Nat.{ℕ, ◌≤◌}
-use mathlib.Core.Path.{◌≡◌, sym, subst, ap, ◌∙◌}
+use mathlib.Core.Path.{◌≡◌, ap, ◌∙◌}
 use mathlib.Core.List.{List, ◌++◌}
 use lib.ListN.{length, take, drop, replicate}
-use borrow.Author.Rules.{rules}
 use Rattle.nr.specs.Answer.{Outcome, given}
 use Rattle.nr.specs.SuccessiveDecoder.{descramble}
 use Rattle.nr.specs.Coding.{coding}
-use Rattle.rows.proofs.Parts.{take-replicate, front-back, front-room, front-size}
+use Rattle.rows.proofs.Parts.{take-replicate, front-back, front-size}
 use Rattle.self_test.proofs.sign.Goals as goal
-use Rattle.self_test.proofs.sign.Goals.{After-encode, Outcome, Start}
+use Rattle.self_test.proofs.sign.Goals.{After-encode}
 
-abbrev E : Start → ℕ
-E s = length s.args.strengths.now
+-- the part of the row that is lent has one entry for each strength
+room : (c : After-encode) → length c.args.strengths.now ≤ 1728
+room c = rw c.requires.0 c.requires.2
 
-room : (s : Start) → E s ≤ 1728
-room s = subst (λ (m : ℕ). m ≤ 1728) (sym s.requires.0) s.requires.2
+-- the coded bits come back in it
+lent : (c : After-encode) → let e = length c.args.strengths.now in
+    take e (c.encode.new.out ++ drop e (replicate 1728 0)) ≡ c.encode.new.out
+lent c =
+    let e = length c.args.strengths.now in
+    front-back c.encode.new.out _ e (c.encode.auto.out ∙ front-size e 1728 0 (room c))
 
-size : (s : Start) → length {A = ℕ} (take (E s) (replicate 1728 0)) ≡ E s
-size s = front-size (E s) 1728 0 (room s)
-
-back-size : (c : After-encode) → length c.encode.new.out ≡ E c.before.before.before
-back-size c = c.encode.auto.out ∙ size c.before.before.before
-
-lent : (c : After-encode) → let s = c.before.before.before in
-    take (E s) (c.encode.new.out ++ drop (E s) (replicate 1728 0)) ≡ c.encode.new.out
-lent c = front-back c.encode.new.out _ (E c.before.before.before) (back-size c)
-
-coded : (c : After-encode) → let s = c.before.before.before in
-    c.encode.new.out ≡ (coding s.args.numbers s.args.payload.now (replicate s.args.numbers.e 0)).buffer
+-- the row is given as zeros, so that what is in it does not depend on the caller's
+coded : (c : After-encode) → c.encode.new.out ≡ (coding c.args.numbers c.args.payload.now (replicate c.args.numbers.e 0)).buffer
 unfolding given
 coded c =
-    let s = c.before.before.before in
     ap (λ (o : Outcome). o.buffer) c.encode.ensures
-    ∙ ap (λ (x : List ℕ). (coding s.args.numbers s.args.payload.now x).buffer)
-    (take-replicate (E s) 1728 0 (room s) ∙ ap (λ (m : ℕ). replicate m 0) s.requires.0)
+    ∙ ap (λ (x : List ℕ). (coding c.args.numbers c.args.payload.now x).buffer)
+    (take-replicate (length c.args.strengths.now) 1728 0 (room c) ∙ ap (λ (m : ℕ). replicate m 0) c.requires.0)
 
 pub returns : goal.returns
 returns c =
-    c.negate.ensures ∙ ap (λ (x : List ℕ). descramble x c.args.strengths.now) (lent (goal.at.returns c).After-encode ∙ coded (goal.at.returns c).After-encode)
+    let k = (goal.at.returns c).After-encode in
+    c.negate.ensures ∙ ap (λ (x : List ℕ). descramble x c.args.strengths.now) (lent k ∙ coded k)
