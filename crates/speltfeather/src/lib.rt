@@ -1,4 +1,6 @@
 // The C interface (include/speltfeather.h).
+#![tactic(auto)]
+
 ghost use Rattle.std.specs.Prelude.{◌≡◌, ◌+◌, ◌*◌, ◌<◌, ◌^◌};
 ghost use Rattle.nr.specs.Answer.{number, place_of, reading};
 ghost use Rattle.nr.specs.Coding.{coding};
