@@ -16,8 +16,7 @@ result c = rw c.requires.0 (rank_is c.args.shift c.args.p c.requires.1 c.require
 
 pub bounds-inverse-block : goal.bounds-inverse-block
 bounds-inverse-block c =
-    let s = c.before in
-    omega (arith, ap length s.requires.0, ranks-length, block-lt s.args.shift s.args.p s.requires.1 s.requires.2)
+    omega (arith, ap length c.requires.0, ranks-length, block-lt c.args.shift c.args.p c.requires.1 c.requires.2)
 
 pub returns : goal.returns
 returns c = result (goal.at.returns c).Start

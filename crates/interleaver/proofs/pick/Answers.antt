@@ -9,8 +9,8 @@ use Rattle.interleaver.proofs.Picking.{table-length, whole, Counted, skips, coun
 use Rattle.interleaver.proofs.pick.Goals as goal
 use Rattle.interleaver.proofs.pick.Goals.{Then-h-x}
 
-turn : (c : Then-h-x) → let s = c.before.before.before in Counted (length s.args.row.now) s.loop-m.k s.loop-m.m (get_or s.args.table.now s.loop-m.m 0)
-turn c = let s = c.before.before.before in counts s.requires.table_value s.requires.row_len_bound.0 s.loop-m.m (omega arith) s.loop-m.invariant.1 (omega arith)
+turn : (c : Then-h-x) → Counted (length c.args.row.now) c.loop-m.k c.loop-m.m (get_or c.args.table.now c.loop-m.m 0)
+turn c = counts c.requires.table_value c.requires.row_len_bound.0 c.loop-m.m (omega arith) c.loop-m.invariant.1 (omega arith)
 
 pub loop-m-init : goal.loop-m-init
 loop-m-init c = (omega arith, refl, filling _ _ (c.requires.row_len_bound.1 ∙ sym (length-interleave c.args.row.now c.requires.row_len_bound.0)))
@@ -26,23 +26,20 @@ bounds-out-k c = omega (arith, (turn (goal.at.bounds-out-k c).Then-h-x).room, fi
 
 pub loop-m-preserved-then-h-x : goal.loop-m-preserved-then-h-x
 loop-m-preserved-then-h-x c =
-    let s = c.before.before.before.before in
-    let row = s.args.row.now in
-    let few = s.requires.row_len_bound.0 in
+    let row = c.args.row.now in
+    let few = c.requires.row_len_bound.0 in
     let t = turn (goal.at.loop-m-preserved-then-h-x c).Then-h-x in (
       omega arith,
       t.next,
-      filling-more s.loop-m.invariant.2 _ 0 (omega (arith, length-interleave row few, t.room)) (output row s.loop-m.k _ few t.room t.spot),
+      filling-more c.loop-m.invariant.2 _ 0 (omega (arith, length-interleave row few, t.room)) (output row c.loop-m.k _ few t.room t.spot),
     )
 
 pub loop-m-preserved : goal.loop-m-preserved
 loop-m-preserved c =
-    let s = c.before.before.before in
-    (omega arith, skips s.requires.table_value s.requires.row_len_bound.0 s.loop-m.m (omega arith) s.loop-m.invariant.1 (omega arith), s.loop-m.invariant.2)
+    (omega arith, skips c.requires.table_value c.requires.row_len_bound.0 c.loop-m.m (omega arith) c.loop-m.invariant.1 (omega arith), c.loop-m.invariant.2)
 
 pub returns : goal.returns
 returns c =
-    let s = c.before in
-    let row = s.args.row.now in
-    let few = s.requires.row_len_bound.0 in
-    filled s.loop-m.invariant.2 (omega (arith, s.loop-m.invariant.1, whole (length row) few s.loop-m.m (omega arith), length-interleave row few))
+    let row = c.args.row.now in
+    let few = c.requires.row_len_bound.0 in
+    filled c.loop-m.invariant.2 (omega (arith, c.loop-m.invariant.1, whole (length row) few c.loop-m.m (omega arith), length-interleave row few))

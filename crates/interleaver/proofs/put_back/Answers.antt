@@ -7,14 +7,13 @@ use Rattle.interleaver.proofs.Picking.{table-length, whole, Counted, skips, coun
 use Rattle.interleaver.proofs.put_back.Goals as goal
 use Rattle.interleaver.proofs.put_back.Goals.{Then-least-x}
 
-turn : (c : Then-least-x) → let s = c.before.before.before in Counted (length s.args.row.now) s.loop-m.j s.loop-m.m (get_or s.args.table.now s.loop-m.m 0)
-turn c = let s = c.before.before.before in counts s.requires.table_value s.requires.row_len_bound.0 s.loop-m.m (omega arith) s.loop-m.invariant.1 (omega arith)
+turn : (c : Then-least-x) → Counted (length c.args.row.now) c.loop-m.j c.loop-m.m (get_or c.args.table.now c.loop-m.m 0)
+turn c = counts c.requires.table_value c.requires.row_len_bound.0 c.loop-m.m (omega arith) c.loop-m.invariant.1 (omega arith)
 
 pub loop-m-preserved-then-least-x : goal.loop-m-preserved-then-least-x
 loop-m-preserved-then-least-x c =
-    let s = c.before.before.before.before in
     let t = turn (goal.at.loop-m-preserved-then-least-x c).Then-least-x in
-    (omega arith, t.next, returned-more _ _ s.requires.row_len_bound.0 s.loop-m.j _ _ s.loop-m.invariant.2 t.room t.spot refl)
+    (omega arith, t.next, returned-more _ _ c.requires.row_len_bound.0 c.loop-m.j _ _ c.loop-m.invariant.2 t.room t.spot refl)
 
 pub bounds-table-m : goal.bounds-table-m
 bounds-table-m c = omega (arith, table-length, ap length c.requires.table_value)
@@ -30,11 +29,9 @@ overflow_add-j c = omega (arith, (turn (goal.at.overflow_add-j c).Then-least-x).
 
 pub loop-m-preserved : goal.loop-m-preserved
 loop-m-preserved c =
-    let s = c.before.before.before in
-    (omega arith, skips s.requires.table_value s.requires.row_len_bound.0 s.loop-m.m (omega arith) s.loop-m.invariant.1 (omega arith), s.loop-m.invariant.2)
+    (omega arith, skips c.requires.table_value c.requires.row_len_bound.0 c.loop-m.m (omega arith) c.loop-m.invariant.1 (omega arith), c.loop-m.invariant.2)
 
 pub returns : goal.returns
 returns c =
-    let s = c.before in
-    let few = s.requires.row_len_bound.0 in
-    returned-all _ _ few s.loop-m.j s.loop-m.invariant.2 (omega (arith, s.loop-m.invariant.1, whole _ few s.loop-m.m (omega arith)))
+    let few = c.requires.row_len_bound.0 in
+    returned-all _ _ few c.loop-m.j c.loop-m.invariant.2 (omega (arith, c.loop-m.invariant.1, whole _ few c.loop-m.m (omega arith)))

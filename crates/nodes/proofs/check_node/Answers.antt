@@ -17,24 +17,24 @@ small c = least-small c.smaller-s.result c.args.a c.args.b (least c) c.requires.
 
 pub returns-then-b-lt0 : goal.returns-then-b-lt0
 returns-then-b-lt0 c =
-    let s = c.before.before in
+    let s = (goal.at.returns-then-b-lt0 c).After-smaller-s in
     back s.smaller-s.result (small s) ∙ least s
     ∙ f-tt _ _ (told _ true s.ranges.a c.if-a-lt0.true) (told _ true s.ranges.b c.if-b-lt0.true)
 
 pub returns-else-b-lt0 : goal.returns-else-b-lt0
 returns-else-b-lt0 c =
-    let s = c.before.before in
+    let s = (goal.at.returns-else-b-lt0 c).After-smaller-s in
     neg_is s.smaller-s.result (small s) ∙ ap neg_ℤ (least s)
     ∙ f-tf _ _ (told _ true s.ranges.a c.if-a-lt0.true) (told _ false s.ranges.b c.if-b-lt0.false)
 
 pub returns-else-b-lt0-2 : goal.returns-else-b-lt0-2
 returns-else-b-lt0-2 c =
-    let s = c.before.before in
+    let s = (goal.at.returns-else-b-lt0-2 c).After-smaller-s in
     back s.smaller-s.result (small s) ∙ least s
     ∙ f-ff _ _ (told _ false s.ranges.a c.if-a-lt0.false) (told _ false s.ranges.b c.if-b-lt0-2.false)
 
 pub returns-then-b-lt0-2 : goal.returns-then-b-lt0-2
 returns-then-b-lt0-2 c =
-    let s = c.before.before in
+    let s = (goal.at.returns-then-b-lt0-2 c).After-smaller-s in
     neg_is s.smaller-s.result (small s) ∙ ap neg_ℤ (least s)
     ∙ f-ft _ _ (told _ false s.ranges.a c.if-a-lt0.false) (told _ true s.ranges.b c.if-b-lt0-2.true)

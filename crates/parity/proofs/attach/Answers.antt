@@ -12,11 +12,7 @@ use Rattle.parity.proofs.attach.Goals as goal
 pub returns : goal.returns
 unfolding attach
 returns c =
-    let w = c.before.before in
-    let p = w.before.before in
-    let f = p.before.before.before in
-    let s = f.before.before.before.before in
-    let payload = s.args.payload.now in
-    two-parts f.copy.new.to _ w.write_bits.new.row (length payload) (ap length f.copy.ensures)
-    ∙ ap₂ (λ (x y : List ℕ). x ++ y) f.copy.ensures w.write_bits.ensures
-    ∙ masked payload (parity payload) p.parity.result s.args.rnti s.requires.1 p.parity.ensures s.ranges.rnti.fits
+    let payload = c.args.payload.now in
+    two-parts c.copy.new.to _ c.write_bits.new.row (length payload) (ap length c.copy.ensures)
+    ∙ ap₂ (λ (x y : List ℕ). x ++ y) c.copy.ensures c.write_bits.ensures
+    ∙ masked payload (parity payload) c.parity.result c.args.rnti c.requires.1 c.parity.ensures c.ranges.rnti.fits

@@ -11,9 +11,7 @@ use Rattle.parity.proofs.matches.Goals as goal
 
 pub returns : goal.returns
 returns c =
-    let w = c.before.before in
-    let s = w.before.before.before in
-    let row = s.args.row.now in
+    let row = c.args.row.now in
     let A = length row - 24 in
-    matched A row c.parity.result w.read_bits-last.result s.args.rnti (omega arith) s.requires.1 c.parity.ensures
-    (subst (λ (r : List ℕ). Holds r w.read_bits-last.result) (rest A row) w.read_bits-last.ensures) s.ranges.rnti.fits
+    matched A row c.parity.result c.read_bits-last.result c.args.rnti (omega arith) c.requires.1 c.parity.ensures
+    (subst (λ (r : List ℕ). Holds r c.read_bits-last.result) (rest A row) c.read_bits-last.ensures) c.ranges.rnti.fits

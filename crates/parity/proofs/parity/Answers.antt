@@ -9,10 +9,8 @@ loop-i-init c = (omega arith, holds-started)
 
 pub loop-i-preserved : goal.loop-i-preserved
 loop-i-preserved c =
-    let s = c.before.before.before in
-    (omega arith, holds_more s.loop-i.i s.loop-i.register c.feed-register.result s.args.payload.now (omega arith) s.loop-i.invariant.1 c.feed-register.ensures)
+    (omega arith, holds_more c.loop-i.i c.loop-i.register c.feed-register.result c.args.payload.now (omega arith) c.loop-i.invariant.1 c.feed-register.ensures)
 
 pub returns : goal.returns
 returns c =
-    let s = c.before in
-    holds-parity s.loop-i.i s.loop-i.register _ s.requires (omega arith) s.loop-i.invariant.1
+    holds-parity c.loop-i.i c.loop-i.register _ c.requires (omega arith) c.loop-i.invariant.1

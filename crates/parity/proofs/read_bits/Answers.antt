@@ -6,5 +6,4 @@ use Rattle.parity.proofs.read_bits.Goals as goal
 
 pub loop-j-preserved : goal.loop-j-preserved
 loop-j-preserved c =
-    let s = c.before.before in
-    (omega arith, read_more s.loop-j.invariant.1 (omega arith) s.requires.0 s.requires.1)
+    (omega arith, read_more c.loop-j.invariant.1 (omega arith) c.requires.0 c.requires.1)

@@ -8,16 +8,13 @@ use Rattle.polar.proofs.combine.Goals as goal
 
 pub loop-i-preserved : goal.loop-i-preserved
 loop-i-preserved c =
-    let n = c.before.before in
-    let s = n.before.before in
-    let l = n.loop-i in (
+    let l = c.loop-i in (
       omega arith,
       simp length-set l.invariant.1,
-      sum-next s.args.block.now s.args.half s.requires.block_len s.requires.bits l.block l.i l.invariant.2 n.loop-i-test.true,
+      sum-next c.args.block.now c.args.half c.requires.block_len c.requires.bits l.block l.i l.invariant.2 c.loop-i-test.true,
     )
 
 pub returns : goal.returns
 returns c =
-    let s = c.before.before in
-    let e : c.loop-i.i ≡ s.args.half = omega arith in
-    (rw e at c.loop-i.invariant.2) ∙ all-filled s.args.block.now s.args.half s.requires.block_len
+    let e : c.loop-i.i ≡ c.args.half = omega arith in
+    (rw e at c.loop-i.invariant.2) ∙ all-filled c.args.block.now c.args.half c.requires.block_len

@@ -18,17 +18,15 @@ row-length c = ap length c.loop-i.invariant.1 ∙ length-placed (length c.args.u
 
 below : (c : In-loop-i) → get_or c.args.positions.now c.loop-i.i 0 < length c.args.u.now
 below c =
-    let s = c.before in
-    let ps = s.args.positions.now in
-    s.requires.bits_len.1.below (get_or ps s.loop-i.i 0) (has_get_d ps s.loop-i.i 0 (omega arith))
+    let ps = c.args.positions.now in
+    c.requires.bits_len.1.below (get_or ps c.loop-i.i 0) (has_get_d ps c.loop-i.i 0 (omega arith))
 
 pub loop-i-preserved : goal.loop-i-preserved
 loop-i-preserved c =
-    let s = c.before.before.before in
-    let a = s.args in (
+    let a = c.args in (
       omega arith,
-      ap (λ (r : List ℕ). set r (get_or a.positions.now s.loop-i.i 0) (get_or a.bits.now s.loop-i.i 0)) s.loop-i.invariant.1
-          ∙ placed-next (length a.u.now) a.positions.now a.bits.now s.requires.bits_len.0 s.requires.bits_len.1.rising s.loop-i.i (omega arith) (below (goal.at.loop-i-preserved c).In-loop-i),
+      ap (λ (r : List ℕ). set r (get_or a.positions.now c.loop-i.i 0) (get_or a.bits.now c.loop-i.i 0)) c.loop-i.invariant.1
+          ∙ placed-next (length a.u.now) a.positions.now a.bits.now c.requires.bits_len.0 c.requires.bits_len.1.rising c.loop-i.i (omega arith) (below (goal.at.loop-i-preserved c).In-loop-i),
     )
 
 pub loop-i-init : goal.loop-i-init

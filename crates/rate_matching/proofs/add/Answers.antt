@@ -12,11 +12,10 @@ use Rattle.rate_matching.proofs.add.Goals as goal
 pub loop-k-preserved : goal.loop-k-preserved
 loop-k-preserved c =
     let l = c.loop-k in
-    let s = c.before.before.before.before in
-    let piece = s.args.piece.now in
-    let y = s.args.y.now in (
-      filling-more l.invariant.0 _ (pos 0) (omega (arith, length-added piece y s.requires.0))
-          (added_is piece y l.y l.k (filling-old l.invariant.0 l.k (pos 0) (omega arith)) s.requires.1 s.requires.2),
+    let piece = c.args.piece.now in
+    let y = c.args.y.now in (
+      filling-more l.invariant.0 _ (pos 0) (omega (arith, length-added piece y c.requires.0))
+          (added_is piece y l.y l.k (filling-old l.invariant.0 l.k (pos 0) (omega arith)) c.requires.1 c.requires.2),
       omega arith,
     )
 
@@ -26,13 +25,11 @@ loop-k-init c = (filling _ _ (sym (length-added c.args.piece.now c.args.y.now c.
 pub overflow_add-y : goal.overflow_add-y
 overflow_add-y c =
     let l = c.loop-k in
-    let s = c.before.before.before.before in
-    added-fits s.args.piece.now s.args.y.now l.y l.k (filling-old l.invariant.0 l.k (pos 0) (omega arith)) s.requires.1 s.requires.2
+    added-fits c.args.piece.now c.args.y.now l.y l.k (filling-old l.invariant.0 l.k (pos 0) (omega arith)) c.requires.1 c.requires.2
 
 pub returns : goal.returns
 returns c =
-    let s = c.before.before in
-    let piece = s.args.piece.now in
-    let y = s.args.y.now in
+    let piece = c.args.piece.now in
+    let y = c.args.y.now in
     let e : length piece ≡ c.loop-k.k = omega (arith, c.loop-k.invariant.1) in
-    filled-early c.loop-k.invariant.0 (rw (← e) (sym (drop-plus piece y s.requires.0)))
+    filled-early c.loop-k.invariant.0 (rw (← e) (sym (drop-plus piece y c.requires.0)))

@@ -10,20 +10,14 @@ use Rattle.rate_matching.proofs.add_up.Goals as goal
 
 pub loop-from-preserved : goal.loop-from-preserved
 loop-from-preserved c =
-    let k = c.before in
-    let t = k.before.before.before.before in
-    let l = t.loop-from in
-    let s = t.before in
-    summing-more l.invariant s.requires.y_nonzero.2 s.requires.y_nonzero.3 _ (l.from + length s.args.y.now) k.add.ensures s.requires.y_nonzero.0 refl (omega (arith, l.invariant.within))
+    let l = c.loop-from in
+    summing-more l.invariant c.requires.y_nonzero.2 c.requires.y_nonzero.3 _ (l.from + length c.args.y.now) c.add.ensures c.requires.y_nonzero.0 refl (omega (arith, l.invariant.within))
 
 pub returns : goal.returns
 returns c =
-    let k = c.before in
-    let t = k.before.before.before.before in
-    let l = t.loop-from in
-    let s = t.before in
-    summed l.invariant s.requires.y_nonzero.2 s.requires.y_nonzero.3 _ (length s.args.soft.now) k.add-2.ensures refl (omega arith)
-    ∙ undo-repetition (length s.args.y.now) s.args.soft.now
+    let l = c.loop-from in
+    summed l.invariant c.requires.y_nonzero.2 c.requires.y_nonzero.3 _ (length c.args.soft.now) c.add-2.ensures refl (omega arith)
+    ∙ undo-repetition (length c.args.y.now) c.args.soft.now
 
 pub loop-from-init : goal.loop-from-init
 loop-from-init c = summing _ c.args.soft.now c.args.y.now c.requires.y_nonzero.0 c.requires.y_nonzero.1 refl c.requires.y_value

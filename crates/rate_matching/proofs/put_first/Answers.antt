@@ -7,8 +7,5 @@ use Rattle.rate_matching.proofs.put_first.Goals as goal
 
 pub returns : goal.returns
 returns c =
-    let f = c.before in
-    let k = f.before.before.before in
-    let s = k.before.before in
-    undo-shortening (length s.args.y.now) s.args.soft.now s.args.y.now refl s.requires
-    _ k.copy_soft.ensures _ f.fill_certain.ensures
+    undo-shortening (length c.args.y.now) c.args.soft.now c.args.y.now refl c.requires
+    _ c.copy_soft.ensures _ c.fill_certain.ensures

@@ -7,5 +7,4 @@ use Rattle.rate_matching.proofs.put_last.Goals as goal
 
 pub returns : goal.returns
 returns c =
-    let s = c.before.before.before in
-    undo-puncturing (length s.args.y.now) s.args.soft.now s.args.y.now refl s.requires.0 s.requires.1 _ c.copy_soft.ensures
+    undo-puncturing (length c.args.y.now) c.args.soft.now c.args.y.now refl c.requires.0 c.requires.1 _ c.copy_soft.ensures

@@ -5,39 +5,30 @@ use mathlib.Core.Path.{◌≡◌, sym, subst, ap, ◌∙◌}
 use mathlib.Core.List.{◌++◌}
 use lib.IntN.{pos}
 use lib.ListN.{length, take, drop, replicate}
-use Rattle.nr.specs.SuccessiveDecoder.{descramble}
 use Rattle.nr.specs.RateMatching.{Fits}
 use Rattle.nr.specs.Rows.{Within}
 use Rattle.nr.proofs.SoftRows.{descramble-within}
 use Rattle.rows.proofs.Parts.{front-back, front-size}
 use Rattle.receiver.proofs.code_row.Goals as goal
-use Rattle.receiver.proofs.code_row.Goals.{After-negate, Start}
+use Rattle.receiver.proofs.code_row.Goals.{After-negate}
 
-abbrev E : Start → ℕ
-E s = length s.args.soft.now
+-- the descrambled values come back in the part of the row that is lent
+back-size : (c : After-negate) → length c.negate.new.out ≡ length c.args.soft.now
+back-size c = c.negate.auto.out ∙ front-size (length c.args.soft.now) 1728 (pos 0) c.requires.le_n.3
 
-size : (s : Start) → length (take (E s) (replicate 1728 (pos 0))) ≡ E s
-size s = front-size (E s) 1728 (pos 0) s.requires.le_n.3
-
-back-size : (c : After-negate) → length c.negate.new.out ≡ E c.before.before.before.before
-back-size c = c.negate.auto.out ∙ size c.before.before.before.before
-
-lent : (c : After-negate) → let e = E c.before.before.before.before in
-    take e (c.negate.new.out ++ drop e (replicate 1728 (pos 0)))
-    ≡ descramble c.args.sequence.now c.args.soft.now
-lent c = front-back c.negate.new.out _ (E c.before.before.before.before) (back-size c) ∙ c.negate.ensures
-
-lent-size : (c : After-negate) → let e = E c.before.before.before.before in
-    length (take e (c.negate.new.out ++ drop e (replicate 1728 (pos 0)))) ≡ e
-lent-size c = ap length (front-back c.negate.new.out _ (E c.before.before.before.before) (back-size c)) ∙ back-size c
+lent : (c : After-negate) → let e = length c.args.soft.now in
+    take e (c.negate.new.out ++ drop e (replicate 1728 (pos 0))) ≡ c.negate.new.out
+lent c = front-back c.negate.new.out _ (length c.args.soft.now) (back-size c)
 
 pub gather-requires : goal.gather-requires
 gather-requires c =
-    let a = c.args in (
+    let a = c.args in
+    let n = (goal.at.gather-requires c).After-negate in
+    let size = ap length (lent n) ∙ back-size n in (
       c.requires.le_n.0,
       c.requires.le_n.1,
-      subst (Fits a.kind (2 ^ a.n)) (sym (lent-size (goal.at.gather-requires c).After-negate)) c.requires.le_n.2,
+      subst (Fits a.kind (2 ^ a.n)) (sym size) c.requires.le_n.2,
       c.requires.sequence_len.1,
-      subst (λ (e : ℕ). e ≤ 1728) (sym (lent-size (goal.at.gather-requires c).After-negate)) c.requires.le_n.3,
-      subst (Within 127) (sym (lent (goal.at.gather-requires c).After-negate)) (descramble-within 127 a.sequence.now a.soft.now c.requires.le_n.4),
+      subst (λ (e : ℕ). e ≤ 1728) (sym size) c.requires.le_n.3,
+      subst (Within 127) (sym (lent n ∙ c.negate.ensures)) (descramble-within 127 a.sequence.now a.soft.now c.requires.le_n.4),
     )

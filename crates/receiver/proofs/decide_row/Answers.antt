@@ -11,62 +11,72 @@ use Rattle.rows.proofs.Parts.{take-replicate, front-back, front-room, front-size
 use Rattle.polar.specs.Codes.{Positions}
 use Rattle.successive_decoder.specs.Levels.{row_of}
 use Rattle.receiver.proofs.decide_row.Goals as goal
-use Rattle.receiver.proofs.decide_row.Goals.{After-mark, Start}
+use Rattle.receiver.proofs.decide_row.Goals.{After-mark}
 
-abbrev N : Start → ℕ
-N s = length s.args.est.now
+-- N, and the part of the row that is lent for the marks
+room : (m n : ℕ) → m ≡ 2 ^ n → n ≤ 9 → m ≤ 512
+room m n e h = subst (λ (m : ℕ). m ≤ 512) (sym e) (pow_mono {i = n} {j = 9} h)
 
-room : (s : Start) → N s ≤ 512
-room s = subst (λ (m : ℕ). m ≤ 512) (sym s.requires.n_bound.2) (pow_mono {i = s.args.n} {j = 9} s.requires.n_bound.0)
+size : (m : ℕ) → m ≤ 512 → length {A = ℕ} (take m (replicate 512 0)) ≡ m
+size m h = front-size m 512 0 h
 
-size : (s : Start) → length {A = ℕ} (take (N s) (replicate 512 0)) ≡ N s
-size s = front-size (N s) 512 0 (room s)
+-- the marks come back in it
+back-size : (c : After-mark) → length c.mark.new.row ≡ length c.args.est.now
+back-size c =
+    let n = length c.args.est.now in
+    c.mark.auto.row ∙ size n (room n c.args.n c.requires.n_bound.2 c.requires.n_bound.0)
+
+lent : (c : After-mark) → let n = length c.args.est.now in take n (c.mark.new.row ++ drop n (replicate 512 0)) ≡ c.mark.new.row
+lent c = front-back c.mark.new.row _ (length c.args.est.now) (back-size c)
+
+marked : (c : After-mark) → let n = length c.args.est.now in
+    take n (c.mark.new.row ++ drop n (replicate 512 0)) ≡ marks (2 ^ c.args.n) c.args.positions.now
+marked c =
+    let n = length c.args.est.now in
+    let part = size n (room n c.args.n c.requires.n_bound.2 c.requires.n_bound.0) in
+    lent c ∙ c.mark.ensures ∙ ap (λ (m : ℕ). marks m c.args.positions.now) (part ∙ c.requires.n_bound.2)
+
+-- ---- the answers
+
+pub slice_bounds-chosen-end : goal.slice_bounds-chosen-end
+slice_bounds-chosen-end c = room (length c.args.est.now) c.args.n c.requires.n_bound.2 c.requires.n_bound.0
+
+pub slice_bounds-mark-end : goal.slice_bounds-mark-end
+slice_bounds-mark-end c =
+    let n = length c.args.est.now in
+    sym (size n (room n c.args.n c.requires.n_bound.2 c.requires.n_bound.0))
 
 pub mark-requires : goal.mark-requires
 mark-requires c =
-    let s = (goal.at.mark-requires c).Start in
-    let ps = s.args.positions.now in (
-      subst (λ (m : ℕ). Positions m ps) (sym (size (goal.at.mark-requires c).Start ∙ s.requires.n_bound.2)) s.requires.n_bound.1,
-      take-replicate (N s) 512 0 (room (goal.at.mark-requires c).Start) ∙ ap (λ (m : ℕ). replicate m 0) (sym (size (goal.at.mark-requires c).Start)),
+    let n = length c.args.est.now in
+    let small = room n c.args.n c.requires.n_bound.2 c.requires.n_bound.0 in (
+      subst (λ (m : ℕ). Positions m c.args.positions.now) (sym (size n small ∙ c.requires.n_bound.2)) c.requires.n_bound.1,
+      take-replicate n 512 0 small ∙ ap (λ (m : ℕ). replicate m 0) (sym (size n small)),
     )
 
-abbrev start : After-mark → Start
-start c = c.before.before.before.before.before.before
+pub slice_bounds-chosen-end-2 : goal.slice_bounds-chosen-end-2
+slice_bounds-chosen-end-2 c = front-room c.mark.new.row _ _ (back-size (goal.at.slice_bounds-chosen-end-2 c).After-mark)
 
-abbrev marked : After-mark → List ℕ
-marked c = c.mark.new.row
+pub slice_bounds-decode_row-end : goal.slice_bounds-decode_row-end
+slice_bounds-decode_row-end c =
+    let m = (goal.at.slice_bounds-decode_row-end c).After-mark in
+    sym (ap length (lent m) ∙ back-size m)
 
-back-size : (c : After-mark) → length (marked c) ≡ N (start c)
-back-size c = c.mark.auto.row ∙ size (start c)
-
-lent : (c : After-mark) → let s = start c in
-    take (N s) (marked c ++ drop (N s) (replicate 512 0)) ≡ marks (2 ^ s.args.n) s.args.positions.now
-lent c =
-    let s = start c in
-    front-back (marked c) _ (N s) (back-size c) ∙ c.mark.ensures
-    ∙ ap (λ (m : ℕ). marks m s.args.positions.now) (size s ∙ s.requires.n_bound.2)
-
-lent-size : (c : After-mark) → length (take (N (start c)) (marked c ++ drop (N (start c)) (replicate 512 0))) ≡ N (start c)
-lent-size c = ap length (front-back (marked c) _ (N (start c)) (back-size c)) ∙ back-size c
+pub decode_row-requires : goal.decode_row-requires
+decode_row-requires c =
+    let m = (goal.at.decode_row-requires c).After-mark in
+    let r = c.requires.n_bound in
+    record {
+      n_bound = (r.0, c.requires.work_len.0, ap length (lent m) ∙ back-size m ∙ r.2, r.2, r.3);
+      within = c.requires.work_len.1;
+    }
 
 pub returns : goal.returns
 returns c =
     let a = c.args in
+    let m = marked (goal.at.returns c).After-mark in
     let decided : List ℕ → List ℕ = λ r. successive a.n r (row_of (2 ^ a.n) a.work.now) in
-    record { est_after = c.decode_row.ensures.est_after ∙ ap decided (lent (goal.at.returns c).After-mark); word_after = c.decode_row.ensures.word_after ∙ ap (λ (r : List ℕ). transform a.n (decided r)) (lent (goal.at.returns c).After-mark) }
-
-pub slice_bounds-chosen-end : goal.slice_bounds-chosen-end
-slice_bounds-chosen-end c = room (goal.at.slice_bounds-chosen-end c).Start
-
-pub slice_bounds-mark-end : goal.slice_bounds-mark-end
-slice_bounds-mark-end c = sym (size (goal.at.slice_bounds-mark-end c).Start)
-
-pub slice_bounds-chosen-end-2 : goal.slice_bounds-chosen-end-2
-slice_bounds-chosen-end-2 c = front-room (marked (goal.at.slice_bounds-chosen-end-2 c).After-mark) _ _ (back-size (goal.at.slice_bounds-chosen-end-2 c).After-mark)
-
-pub slice_bounds-decode_row-end : goal.slice_bounds-decode_row-end
-slice_bounds-decode_row-end c = sym (lent-size (goal.at.slice_bounds-decode_row-end c).After-mark)
-
-pub decode_row-requires : goal.decode_row-requires
-decode_row-requires c =
-    record { n_bound = (c.requires.n_bound.0, c.requires.work_len.0, lent-size (goal.at.decode_row-requires c).After-mark ∙ c.requires.n_bound.2, c.requires.n_bound.2, c.requires.n_bound.3); within = c.requires.work_len.1 }
+    record {
+      est_after = c.decode_row.ensures.est_after ∙ ap decided m;
+      word_after = c.decode_row.ensures.word_after ∙ ap (λ (r : List ℕ). transform a.n (decided r)) m;
+    }

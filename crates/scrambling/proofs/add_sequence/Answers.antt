@@ -18,14 +18,12 @@ loop-row-init c =
 
 pub loop-row-preserved : goal.loop-row-preserved
 loop-row-preserved c =
-    let d = c.before.before.before.before in
-    let p = d.before.before.before in
-    let t = p.loop-row in
-    let a = p.args in
+    let t = c.loop-row in
+    let a = c.args in
     let more = part-added a.row.now a.r.x1 a.r.x2 t.at (t.at + 16 - t.at) (t.at + 16) t.row
-    (omega arith) (omega arith) t.invariant.2 d.add_terms.new.row t.invariant.3 t.invariant.4 d.add_terms.ensures in (
+    (omega arith) (omega arith) t.invariant.2 c.add_terms.new.row t.invariant.3 t.invariant.4 c.add_terms.ensures in (
       omega arith,
-      same_len_mid t.at (t.at + 16 - t.at) t.row d.add_terms.new.row d.add_terms.auto.row ∙ t.invariant.1,
+      same_len_mid t.at (t.at + 16 - t.at) t.row c.add_terms.new.row c.add_terms.auto.row ∙ t.invariant.1,
       more,
       further step1 t.at 16 (t.at + 16) a.r.x1 refl t.invariant.3 c.ahead1-x1.ensures,
       further step2 t.at 16 (t.at + 16) a.r.x2 refl t.invariant.4 c.ahead2-x2.ensures,
@@ -34,17 +32,14 @@ loop-row-preserved c =
 pub add_terms-requires-2 : goal.add_terms-requires-2
 add_terms-requires-2 c =
     let t = c.loop-row in
-    let s = c.before.before.before.before in
-    let part = part-asks s.args.row.now s.args.r.x1 s.args.r.x2 t.at (length t.row - t.at) (length t.row) t.row
-    (omega arith) (omega arith) t.invariant.2 (omega arith) s.requires.bits in
-    record { row_len_bound = part.0; bits = part.1; nibbles_value = s.requires.nibbles_value }
+    let part = part-asks c.args.row.now c.args.r.x1 c.args.r.x2 t.at (length t.row - t.at) (length t.row) t.row
+    (omega arith) (omega arith) t.invariant.2 (omega arith) c.requires.bits in
+    record { row_len_bound = part.0; bits = part.1; nibbles_value = c.requires.nibbles_value }
 
 pub returns : goal.returns
 returns c =
-    let d = c.before.before in
-    let p = d.before.before.before in
-    let t = p.loop-row in
-    let a = p.args in
+    let t = c.loop-row in
+    let a = c.args in
     part-added a.row.now a.r.x1 a.r.x2 t.at (length t.row - t.at) (length a.row.now) t.row
-    (omega arith) (omega arith) t.invariant.2 d.add_terms-2.new.row t.invariant.3 t.invariant.4 d.add_terms-2.ensures
+    (omega arith) (omega arith) t.invariant.2 c.add_terms-2.new.row t.invariant.3 t.invariant.4 c.add_terms-2.ensures
     ∙ added-all a.row.now a.r.x1 a.r.x2

@@ -17,12 +17,11 @@ loop-i-init c =
 
 pub loop-i-preserved : goal.loop-i-preserved
 loop-i-preserved c =
-    let s = c.before.before.before.before in
     let t = c.loop-i in (
       omega arith,
       length-set t.row t.i _ ∙ t.invariant.1,
-      added-one s.args.row.now s.args.x1 s.args.x2 t.i _ t.row s.requires.bits (omega arith) (omega arith) t.invariant.2
-          (ap (λ (l : List ℕ). bit_and (get_or l (read (bit_xor s.args.x1 s.args.x2) t.i) 0) 1) s.requires.nibbles_value ∙ read-bit (bit_xor s.args.x1 s.args.x2) t.i),
+      added-one c.args.row.now c.args.x1 c.args.x2 t.i _ t.row c.requires.bits (omega arith) (omega arith) t.invariant.2
+          (ap (λ (l : List ℕ). bit_and (get_or l (read (bit_xor c.args.x1 c.args.x2) t.i) 0) 1) c.requires.nibbles_value ∙ read-bit (bit_xor c.args.x1 c.args.x2) t.i),
     )
 
 -- the place that is read in the table is one of it

@@ -6,6 +6,5 @@ use Rattle.scrambling.proofs.scramble.Goals as goal
 pub returns : goal.returns
 unfolding gold
 returns c =
-    let d = c.before.before in
-    let e = d.start-r.ensures in
-    rw (e.0, e.1) at d.add_sequence.ensures
+    let e = c.start-r.ensures in
+    rw (e.0, e.1) at c.add_sequence.ensures

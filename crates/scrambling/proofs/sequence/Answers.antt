@@ -11,10 +11,8 @@ use Rattle.scrambling.proofs.sequence.Goals as goal
 
 pub returns : goal.returns
 returns c =
-    let v = c.before.before in
-    let z = v.before.before.before.before in
-    let a = z.args in
+    let a = c.args in
     let n = length a.row.now in
-    v.scramble.ensures
-    ∙ ap₂ (λ (row : List ℕ) (k : ℕ). xors row (gold a.seed k)) z.clear.ensures z.clear.auto.row
+    c.scramble.ensures
+    ∙ ap₂ (λ (row : List ℕ) (k : ℕ). xors row (gold a.seed k)) c.clear.ensures c.clear.auto.row
     ∙ zeros-gold a.seed n
