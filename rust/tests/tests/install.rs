@@ -3,7 +3,7 @@
 use conformance::built::{program_of_readme, root};
 use std::env;
 use std::fs;
-use std::os::unix::fs::{PermissionsExt, symlink};
+use std::os::unix::fs::PermissionsExt;
 use std::path::{Path, PathBuf};
 use std::process::Command;
 
@@ -125,7 +125,8 @@ fn programs(names: &[&str]) -> PathBuf {
     for name in names {
         let mut found = env::split_paths(&path).map(|directory| directory.join(name));
         let found = found.find(|file| file.is_file()).expect("the program");
-        symlink(found, room.join(name)).expect("a link");
+        // A copy, since rt refuses links below the repository.
+        fs::copy(found, room.join(name)).expect("a copy");
     }
     room
 }
