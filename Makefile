@@ -1,6 +1,6 @@
 # make help          this list
 # make demo          proves and builds the library, codes a message, sends it through noise, reads it back; finds two of three in a region
-# make test          the gate: all proofs from nothing, the edits that must be refused, then the library's tests
+# make test          the gate: all proofs, the edits that must be refused, then the library's tests
 # make lib           the archive, target/staticlib/libspeltfeather.a
 # make dci           the command dci
 # make install       header, archive, pkg-config file and the command dci, below PREFIX (/usr/local)
@@ -53,6 +53,7 @@ test:
 	trap 'rm -f "$$log"' EXIT
 	rt ci 2>&1 | tee "$$log"
 	if grep -q '^rt: ok.*, [0-9]* bad' "$$log"; then echo 'FAILED: edits that cannot be tried'; exit 1; fi
+	rm -f $(ARCHIVE)
 	make --no-print-directory lib
 	(cd rust && cargo test --release)
 	tail -n 1 "$$log"

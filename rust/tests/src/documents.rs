@@ -22,7 +22,9 @@ pub fn files(directory: impl AsRef<Path>, ending: &str) -> Vec<PathBuf> {
     for entry in fs::read_dir(root().join(&directory)).expect("a directory") {
         let name = entry.expect("an entry").file_name();
         let path = directory.as_ref().join(&name);
-        if root().join(&path).is_dir() {
+        if name == "out" {
+            // What rt makes of a crate.
+        } else if root().join(&path).is_dir() {
             found.extend(files(path, ending));
         } else if name.to_string_lossy().ends_with(ending) {
             found.push(path);

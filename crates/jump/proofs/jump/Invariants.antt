@@ -11,5 +11,3 @@ invariant-loop-i l = (l.i ≤ 31) × (l.r ≡ jumped (drop l.i l.masks) l.s)
 
 abbrev pub decreases-loop-i : goal.decreases-loop-i
 decreases-loop-i l = l.i
-
--- before a turn: there is room for one bit more

@@ -12,5 +12,3 @@ invariant-loop-k l = l.wrong ≡ counted l.soft (xors l.sent l.sequence) l.k
 
 abbrev pub decreases-loop-k : goal.decreases-loop-k
 decreases-loop-k l = length l.soft - l.k
-
--- a turn

@@ -11,5 +11,3 @@ invariant-loop-i l = (l.i ≤ length l.bits) × (l.u ≡ placed (length l.initia
 
 abbrev pub decreases-loop-i : goal.decreases-loop-i
 decreases-loop-i l = length l.bits - l.i
-
--- the row keeps its length

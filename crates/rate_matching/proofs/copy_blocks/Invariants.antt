@@ -9,5 +9,3 @@ invariant-loop-b l = Moving 0 coding l.n l.d l.y l.b
 
 abbrev pub decreases-loop-b : goal.decreases-loop-b
 decreases-loop-b l = 32 - l.b
-
--- ---- in a turn

@@ -10,5 +10,3 @@ invariant-loop-b l = Moving (pos 0) decoding l.n l.y l.row l.b
 
 abbrev pub decreases-loop-b : goal.decreases-loop-b
 decreases-loop-b l = 32 - l.b
-
--- ---- in a turn

@@ -1,4 +1,5 @@
 -- `scrambling::add_sequence` meets its contract. The loop's invariant: the first `at` entries have their terms added, and the
+-- registers are `at` terms on.
 -- Assumes nothing.
 use Prim.Native.Nat.{◌+◌, ◌-◌}
 use native.Mathlib.Omega.{arith}

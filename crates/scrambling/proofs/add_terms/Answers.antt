@@ -23,5 +23,3 @@ loop-i-preserved c =
       added-one c.args.row.now c.args.x1 c.args.x2 t.i _ t.row c.requires.bits (omega arith) (omega arith) t.invariant.2
           (ap (λ (l : List ℕ). bit_and (get_or l (read (bit_xor c.args.x1 c.args.x2) t.i) 0) 1) c.requires.nibbles_value ∙ read-bit (bit_xor c.args.x1 c.args.x2) t.i),
     )
-
--- the place that is read in the table is one of it
