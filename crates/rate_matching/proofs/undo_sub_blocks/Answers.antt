@@ -21,6 +21,12 @@ module _ (c : In-loop-b) where
 
 -- ---- the answers
 
+pub loop-b-preserved : goal.loop-b-preserved
+loop-b-preserved c =
+    let d = (goal.at.loop-b-preserved c).In-loop-b in
+    moving-more (pos 0) decoding c.args.n c.requires.1 c.requires.2 c.args.y.now c.requires.3 c.loop-b.invariant (turn d).one_of
+    (to d) (ap (λ (t : List ℕ). get_or t c.loop-b.b 0 * S c.args.n) c.requires.0) _ refl _ c.copy_soft.ensures
+
 pub loop-b-init : goal.loop-b-init
 loop-b-init c = moving (pos 0) decoding c.args.n c.args.y.now c.args.row.now c.requires.4
 
@@ -57,12 +63,6 @@ copy_soft-requires c =
 
 pub loop-b-smaller : goal.loop-b-smaller
 loop-b-smaller c = omega (arith, (turn (goal.at.loop-b-smaller c).In-loop-b).one_of)
-
-pub loop-b-preserved : goal.loop-b-preserved
-loop-b-preserved c =
-    let d = (goal.at.loop-b-preserved c).In-loop-b in
-    moving-more (pos 0) decoding c.args.n c.requires.1 c.requires.2 c.args.y.now c.requires.3 c.loop-b.invariant (turn d).one_of
-    (to d) (ap (λ (t : List ℕ). get_or t c.loop-b.b 0 * S c.args.n) c.requires.0) _ refl _ c.copy_soft.ensures
 
 pub returns : goal.returns
 returns c = by-position c.args.n c.requires.1 c.requires.2 c.loop-b.invariant (omega (arith, blocks-length c.requires.0))

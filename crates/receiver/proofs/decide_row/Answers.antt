@@ -17,14 +17,23 @@ use Rattle.receiver.proofs.decide_row.Goals.{After-mark}
 room : (m n : ℕ) → m ≡ 2 ^ n → n ≤ 9 → m ≤ 512
 room m n e h = subst (λ (m : ℕ). m ≤ 512) (sym e) (pow_mono {i = n} {j = 9} h)
 
-size : (m : ℕ) → m ≤ 512 → length {A = ℕ} (take m (replicate 512 0)) ≡ m
-size m h = front-size m 512 0 h
+size : (m v : ℕ) → m ≤ 512 → length {A = ℕ} (take m (replicate 512 v)) ≡ m
+size m v h = front-size m 512 v h
+
+-- the row that is marked is of zeros
+pub mark-requires : goal.mark-requires
+mark-requires c =
+    let n = length c.args.est.now in
+    let small = room n c.args.n c.requires.n_bound.2 c.requires.n_bound.0 in (
+      subst (λ (m : ℕ). Positions m c.args.positions.now) (sym (size n _ small ∙ c.requires.n_bound.2)) c.requires.n_bound.1,
+      take-replicate n 512 0 small ∙ ap (λ (m : ℕ). replicate m 0) (sym (size n _ small)),
+    )
 
 -- the marks come back in it
 back-size : (c : After-mark) → length c.mark.new.row ≡ length c.args.est.now
 back-size c =
     let n = length c.args.est.now in
-    c.mark.auto.row ∙ size n (room n c.args.n c.requires.n_bound.2 c.requires.n_bound.0)
+    c.mark.auto.row ∙ size n _ (room n c.args.n c.requires.n_bound.2 c.requires.n_bound.0)
 
 lent : (c : After-mark) → let n = length c.args.est.now in take n (c.mark.new.row ++ drop n (replicate 512 0)) ≡ c.mark.new.row
 lent c = front-back c.mark.new.row _ (length c.args.est.now) (back-size c)
@@ -33,7 +42,7 @@ marked : (c : After-mark) → let n = length c.args.est.now in
     take n (c.mark.new.row ++ drop n (replicate 512 0)) ≡ marks (2 ^ c.args.n) c.args.positions.now
 marked c =
     let n = length c.args.est.now in
-    let part = size n (room n c.args.n c.requires.n_bound.2 c.requires.n_bound.0) in
+    let part = size n _ (room n c.args.n c.requires.n_bound.2 c.requires.n_bound.0) in
     lent c ∙ c.mark.ensures ∙ ap (λ (m : ℕ). marks m c.args.positions.now) (part ∙ c.requires.n_bound.2)
 
 -- ---- the answers
@@ -44,15 +53,7 @@ slice_bounds-chosen-end c = room (length c.args.est.now) c.args.n c.requires.n_b
 pub slice_bounds-mark-end : goal.slice_bounds-mark-end
 slice_bounds-mark-end c =
     let n = length c.args.est.now in
-    sym (size n (room n c.args.n c.requires.n_bound.2 c.requires.n_bound.0))
-
-pub mark-requires : goal.mark-requires
-mark-requires c =
-    let n = length c.args.est.now in
-    let small = room n c.args.n c.requires.n_bound.2 c.requires.n_bound.0 in (
-      subst (λ (m : ℕ). Positions m c.args.positions.now) (sym (size n small ∙ c.requires.n_bound.2)) c.requires.n_bound.1,
-      take-replicate n 512 0 small ∙ ap (λ (m : ℕ). replicate m 0) (sym (size n small)),
-    )
+    sym (size n _ (room n c.args.n c.requires.n_bound.2 c.requires.n_bound.0))
 
 pub slice_bounds-chosen-end-2 : goal.slice_bounds-chosen-end-2
 slice_bounds-chosen-end-2 c = front-room c.mark.new.row _ _ (back-size (goal.at.slice_bounds-chosen-end-2 c).After-mark)

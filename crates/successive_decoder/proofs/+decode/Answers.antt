@@ -94,6 +94,15 @@ returns-then-n-eq0-clause-sums_after t c =
 
 -- ---- two halves
 
+pub returns-else-n-eq0 : goal.returns-else-n-eq0
+returns-else-n-eq0 t c =
+    let z = both t (goal.at.returns-else-n-eq0 t c).After-decode-else-n-eq0 in
+    record {
+      est_after = est-is c.if-n-eq0.false c.requires z;
+      sums_after = sums-are c.if-n-eq0.false c.requires z c.combine.new.block c.combine.ensures;
+      work_unchanged = work-kept c.if-n-eq0.false c.requires z;
+    }
+
 pub f_row-requires : goal.f_row-requires
 f_row-requires t c = f-asks c.if-n-eq0.false c.requires
 
@@ -110,12 +119,3 @@ pub combine-requires : goal.combine-requires
 combine-requires t c =
     let asked = combine-asks c.if-n-eq0.false c.requires (both t (goal.at.combine-requires t c).After-decode-else-n-eq0) in
     record { block_len = asked.0; bits = asked.1 }
-
-pub returns-else-n-eq0 : goal.returns-else-n-eq0
-returns-else-n-eq0 t c =
-    let z = both t (goal.at.returns-else-n-eq0 t c).After-decode-else-n-eq0 in
-    record {
-      est_after = est-is c.if-n-eq0.false c.requires z;
-      sums_after = sums-are c.if-n-eq0.false c.requires z c.combine.new.block c.combine.ensures;
-      work_unchanged = work-kept c.if-n-eq0.false c.requires z;
-    }
