@@ -5,9 +5,10 @@
 //! without n_RNTI; the n_RNTI of all messages is 0. Up to 0.3.0 there is no noise count, so that the
 //! numbers and the bits alone are compared.
 
-use crate::contestants::{Contestants, Given, Plain, call, said, to_code, to_decode, to_refuse};
+use crate::contestants::{Contestants, Given, call, said, to_code, to_decode, to_refuse};
 use crate::{Make, lines, timed_lines};
 use conformance::built::archive;
+use conformance::library::Plain;
 use speltfeather::Numbers;
 use std::env;
 use std::ffi::{CString, c_char, c_int, c_void};

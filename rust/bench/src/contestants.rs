@@ -2,13 +2,10 @@
 
 use channel::{Random, received};
 use conformance::calls::{second, uncounted};
+use conformance::library::{Plain, answer};
 use conformance::trials;
 use reference::Answer;
 use speltfeather::{Numbers, Refusal};
-
-/// A call with the types of the interface: the input is bits or soft values.
-pub type Plain<T> =
-    unsafe extern "C" fn(u64, u64, u16, u16, u16, *const T, usize, *mut u8, usize) -> u64;
 
 unsafe extern "C" {
     static plain_encode_1: Plain<u8>;
@@ -75,21 +72,7 @@ pub fn said(answer: u64) -> Given {
 
 /// Makes a call.
 pub fn call<T>(call: Plain<T>, numbers: &Numbers, input: &[T], out: &mut [u8]) -> Given {
-    // SAFETY: the pointers come from two slices and stand with their lengths.
-    let answer = unsafe {
-        call(
-            numbers.a,
-            numbers.e,
-            numbers.rnti,
-            numbers.n_id,
-            numbers.n_rnti,
-            input.as_ptr(),
-            input.len(),
-            out.as_mut_ptr(),
-            out.len(),
-        )
-    };
-    said(answer)
+    said(answer(call, numbers, input, out))
 }
 
 /// A random payload to be coded.
