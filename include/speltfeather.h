@@ -9,7 +9,7 @@
  * kept between calls: calls may run in any number of threads at once. A call
  * allocates nothing, and of the C library it needs memcpy and memset alone. On
  * the stack coding takes about 3.4 kB, decoding 19 kB, searching 20 kB, the
- * self-test 28 kB and describing a code 2 kB.
+ * self-test 28 kB and describing a code 0.7 kB.
  */
 #ifndef SPELTFEATHER_H
 #define SPELTFEATHER_H

@@ -2,13 +2,52 @@
 // what is below N and not barred.
 #![tactic(auto)]
 
-ghost use Rattle.std.specs.Prelude.{◌≡◌, true, ℕ, ◌+◌, ◌≤◌, ◌<◌, ◌^◌};
+ghost use Rattle.std.specs.Prelude.{◌≡◌, true, ℕ, ◌-◌, ◌≤◌, ◌<◌, ◌^◌};
 ghost use Rattle.nr.specs.Rows.{has};
 ghost use Rattle.nr.specs.Answer.{lengths};
 ghost use Rattle.nr.specs.Construction.{N, rate_matching, exponent, rank};
-ghost use Rattle.admission.specs.Window.{ranks, Applies, usable, admits};
+ghost use Rattle.admission.specs.Window.{Applies, usable, admits};
 
-use nr::RateMatching;
+use nr::{CodeLength, RateMatching};
+use rate_matching::PLACES;
+
+// n, for our lengths. The 9/8 rule, the limit 8K and the floor of 32 never change it (`n-by-length`).
+pub fn exponent(e: usize) -> CodeLength
+    requires { has e lengths ≡ true }
+    ensures { result.n ≡ exponent e }
+{
+    let n = match e {
+        108 => 7,
+        216 => 8,
+        _ => 9,
+    };
+    CodeLength { n }
+}
+
+// Repetition if E is at least N; else puncturing if K/E is at most 7/16, in whole numbers, else shortening.
+#[tactic(auto, using(std::proofs::lemmas::Bool::Decides::nat_tests), unfolding(nr::specs::Construction::rate_matching, nr::specs::Construction::low_rate))]
+pub fn rate_matching(k: usize, e: usize, len: usize) -> RateMatching
+    requires { (k ≤ 164) × (e ≤ 1728) × (len ≡ N k e) }
+    ensures { result ≡ rate_matching k e }
+{
+    if len <= e {
+        RateMatching::Repetition
+    } else if 16 * k <= 7 * e {
+        RateMatching::Puncturing
+    } else {
+        RateMatching::Shortening
+    }
+}
+
+// The i with J(i) = p.
+fn rank(length: CodeLength, p: usize) -> usize
+    requires { p < 2 ^ length.n }
+    ensures { result ≡ rank (length.n - 5) p }
+{
+    let shift = length.n - 5;
+    let block = p >> shift;
+    (usize::from(PLACES[block]) << shift) + (p & ((1 << shift) - 1))
+}
 
 // Which positions may carry information: those from `front` on whose rank in the sub-block order is at least `lo` and below `hi`.
 #[derive(Clone, Copy)]
@@ -18,29 +57,18 @@ pub struct Window {
     pub hi: usize,
 }
 
-// n, for our lengths. The 9/8 rule, the limit 8K and the floor of 32 never change it (`n-by-length`).
-pub fn exponent(e: usize) -> usize
-    requires { has e lengths ≡ true }
-    ensures { result ≡ exponent e }
-{
-    if e == 108 {
-        return 7;
-    }
-    if e == 216 { 8 } else { 9 }
-}
-
-// Repetition if E is at least N; else puncturing if K/E is at most 7/16, in whole numbers, else shortening.
-pub fn rate_matching(k: usize, e: usize, len: usize) -> RateMatching
-    requires { (k ≤ 164) × (e ≤ 1728) × (len ≡ N k e) }
-    ensures { result ≡ rate_matching k e }
-{
-    if len <= e {
-        return RateMatching::Repetition;
-    }
-    if 16 * k <= 7 * e {
-        RateMatching::Puncturing
-    } else {
-        RateMatching::Shortening
+impl Window {
+    // Whether a position is below N and inside the window.
+    pub fn admits(self, length: CodeLength, p: usize) -> bool
+        ensures { result ≡ admits length.n self p }
+    {
+        // What is below N lies in one of the 32 sub-blocks: `rank` has this shift too, so that the test costs no other.
+        let block = p >> (length.n - 5);
+        if PLACES.len() <= block || p < self.front {
+            return false;
+        }
+        let r = rank(length, p);
+        self.lo <= r && r < self.hi
     }
 }
 
@@ -66,31 +94,4 @@ pub fn window_of(kind: RateMatching, len: usize, e: usize) -> Window
             hi: e,
         },
     }
-}
-
-// The i with J(i) = p, for N = 32 * 2^shift.
-fn rank(inverse: &[u8], shift: usize, p: usize) -> usize
-    requires { (inverse.now ≡ ranks) × (shift ≤ 4) × (p < 2 ^ (shift + 5)) }
-    ensures { result ≡ rank shift p }
-{
-    let block = p >> shift;
-    ((inverse[block] as usize) << shift) + (p - (block << shift))
-}
-
-// Whether a position is below N and inside the window.
-pub fn is_admitted(inverse: &[u8], n: usize, w: Window, p: usize) -> bool
-    requires { (inverse.now ≡ ranks) × (5 ≤ n) × (n ≤ 9) }
-    ensures { result ≡ admits n w p }
-{
-    if (1 << n) <= p {
-        return false;
-    }
-    if p < w.front {
-        return false;
-    }
-    let r = rank(inverse, n - 5, p);
-    if r < w.lo {
-        return false;
-    }
-    r < w.hi
 }

@@ -1,2 +1,2 @@
--- Laws of the checks of a search and of a candidate.
+-- Laws of the levels and of the test of a candidate.
 pub mod Checked

@@ -1,3 +1,3 @@
 -- Laws of the checks.
 pub mod Refusing
-pub mod Outside
+pub mod Places

@@ -1,24 +1,18 @@
--- The loop that marks the most reliable positions: it goes from the table's end down, and has marked what passes there.
+-- The loop that marks the most reliable positions: it goes from the table's end down, and marks what passes.
 -- Assumes nothing.
-use Prim.Native.Nat.{ℕ, zero, suc, ◌+◌, ◌-◌, ◌≤◌, ◌<◌}
+use Prim.Native.Nat.{ℕ, ◌+◌, ◌-◌, ◌≤◌, ◌<◌}
 use native.Mathlib.Omega.{arith}
 use mathlib.Core.Path.{◌≡◌, refl, sym, ap, ◌∙◌}
 use mathlib.Core.Bool.{Bool, true, false, cond, ◌||◌}
-use mathlib.Core.List.{List, [], ◌∷◌, ◌++◌}
+use mathlib.Core.List.{List, [], ◌∷◌, ◌++◌, append-nil, append_assoc}
 use lib.Dec.{eqb}
-use lib.ListN.{length, get_or, set, take, drop, replicate, length-append, length-replicate, get_or-replicate, length-set, take-append-drop}
-use lib.Seq.{ext_get_or, drop-cons, drop-length, drop_at, get_or-set_same, get_or-set_other}
+use lib.ListN.{length, get_or, set, drop, replicate, length-append, length-replicate, get_or-replicate, length-set}
+use lib.Seq.{ext_get_or, drop_at, get_or-set_same, get_or-set_other}
 use borrow.Author.Tests.{eqb-true, eqb-false}
 use Rattle.nr.specs.Rows.{has, keep, last}
-use Rattle.nr.specs.Reliability.{reliability}
 use Rattle.nr.specs.SuccessiveDecoder.{marks}
 use Rattle.nr.proofs.RoundTrip.{length-marks, marks-at}
 use Rattle.nr.proofs.Sifting.{keep_append}
-
--- the table's length
-pub reliability-length : length reliability ≡ 512
-unfolding reliability
-reliability-length = refl
 
 -- ---- marks
 
@@ -44,64 +38,46 @@ module _ (N : ℕ) where
 
 -- ---- the loop
 
--- of the entries of xs that pass, those from place i on are marked, and `left` are still wanted
+-- `rest` is left to look at; of the entries that were seen, those that pass are marked, and `left` are still wanted
 module _ (f : ℕ → Bool) (N k : ℕ) (xs : List ℕ) where
-  pub record Choosing (row : List ℕ) (left i : ℕ) : Type 0 where
-    pub within : i ≤ length xs
-    pub counted : left + length (keep f (drop i xs)) ≡ k
-    pub marked : row ≡ marks N (keep f (drop i xs))
+  pub record Choosing (row : List ℕ) (left : ℕ) (rest : List ℕ) : Type 0 where
+    pub seen : List ℕ
+    pub parts : rest ++ seen ≡ xs
+    pub counted : left + length (keep f seen) ≡ k
+    pub marked : row ≡ marks N (keep f seen)
 
-  pub choosing : (row : List ℕ) → row ≡ replicate N 0 → Choosing row k (length xs)
-  choosing row e = record {
-    within = omega arith;
-    counted = ap (λ (r : List ℕ). k + length (keep f r)) (drop-length xs) ∙ omega arith;
-    marked = e ∙ marks-none N ∙ ap (λ (r : List ℕ). marks N (keep f r)) (sym (drop-length xs));
-  }
+  pub choosing : (row rest : List ℕ) → row ≡ replicate N 0 → rest ≡ xs → Choosing row k rest
+  choosing row rest e r = record { seen = []; parts = append-nil rest ∙ r; counted = omega arith; marked = e ∙ marks-none N }
 
-  module _ (row : List ℕ) (left i : ℕ) (c : Choosing row left i) where
-    split : keep f xs ≡ keep f (take i xs) ++ keep f (drop i xs)
-    split = ap (keep f) (sym (take-append-drop i xs)) ∙ keep_append f (take i xs) (drop i xs)
+  module _ (row rest : List ℕ) (left : ℕ) (c : Choosing row left rest) where
+    -- the last of the rest is looked at
+    module _ (before : List ℕ) (p : ℕ) (e : rest ≡ before ++ p ∷ []) where
+      next : before ++ p ∷ c.seen ≡ xs
+      next = sym (ap (λ (r : List ℕ). r ++ c.seen) e ∙ append_assoc before (p ∷ []) c.seen) ∙ c.parts
 
-    -- while some are wanted there are entries to come
-    pub more : k ≤ length (keep f xs) → 0 < left → 0 < i
-    more enough l = go i c.counted
-      where
-        go : (j : ℕ) → left + length (keep f (drop j xs)) ≡ k → 0 < j
-        go zero e = let z : ⊥ = omega arith in absurd z
-        go (suc j) e = omega arith
+      pub miss : f p ≡ false → Choosing row left before
+      miss h = record { seen = p ∷ c.seen; parts = next; counted = rw h c.counted; marked = rw h c.marked }
 
-    module _ (l : 0 < i) where
-      abbrev p : ℕ
-      p = get_or xs (i - 1) 0
-
-      next : drop (i - 1) xs ≡ p ∷ drop i xs
-      next =
-          let e : suc (i - 1) ≡ i = omega arith in
-          drop-cons xs (i - 1) 0 (omega (arith, c.within)) ∙ ap (λ (j : ℕ). p ∷ drop j xs) e
-
-      pub miss : f p ≡ false → Choosing row left (i - 1)
-      miss e = record {
-        within = omega (arith, c.within);
-        counted = ap (λ (r : List ℕ). left + length r) same ∙ c.counted;
-        marked = c.marked ∙ ap (marks N) (sym same);
+      pub hit : f p ≡ true → p < N → 0 < left → Choosing (set row p 1) (left - 1) before
+      hit h l m = record {
+        seen = p ∷ c.seen;
+        parts = next;
+        counted = rw h (omega (arith, c.counted));
+        marked = rw h (ap (λ (r : List ℕ). set r p 1) c.marked ∙ marks-more N (keep f c.seen) p l);
       }
-        where
-          same : keep f (drop (i - 1) xs) ≡ keep f (drop i xs)
-          same = ap (keep f) next ∙ ap (λ (b : Bool). cond b (p ∷ keep f (drop i xs)) (keep f (drop i xs))) e
-
-      pub hit : f p ≡ true → p < N → 0 < left → Choosing (set row p 1) (left - 1) (i - 1)
-      hit e h m = record {
-        within = omega (arith, c.within);
-        counted = ap (λ (r : List ℕ). left - 1 + length r) one ∙ omega (arith, c.counted);
-        marked = ap (λ (r : List ℕ). set r p 1) c.marked ∙ marks-more N (keep f (drop i xs)) p h ∙ ap (marks N) (sym one);
-      }
-        where
-          one : keep f (drop (i - 1) xs) ≡ p ∷ keep f (drop i xs)
-          one = ap (keep f) next ∙ ap (λ (b : Bool). cond b (p ∷ keep f (drop i xs)) (keep f (drop i xs))) e
 
     -- none is wanted any more: the k last of those that pass are marked
     pub chose : left ≡ 0 → row ≡ marks N (last k (keep f xs))
     chose e =
-        let kept : length (keep f xs) - k ≡ length (keep f (take i xs)) = rw split (rw length-append (omega (arith, c.counted))) in
+        let split : keep f xs ≡ keep f rest ++ keep f c.seen = ap (keep f) (sym c.parts) ∙ keep_append f rest c.seen in
+        let size : length (keep f xs) - k ≡ length (keep f rest) = rw split (rw length-append (omega (arith, c.counted))) in
         c.marked ∙ ap (marks N) (sym (ap (λ (r : List ℕ). drop (length (keep f xs) - k) r) split
-        ∙ drop_at (keep f (take i xs)) (keep f (drop i xs)) (length (keep f xs) - k) (sym kept)))
+        ∙ drop_at (keep f rest) (keep f c.seen) (length (keep f xs) - k) (sym size)))
+
+    -- while some are wanted there are entries to come
+    pub more : k ≤ length (keep f xs) → length rest ≡ 0 → left ≡ 0
+    more enough e = go rest c.parts e
+      where
+        go : (r : List ℕ) → r ++ c.seen ≡ xs → length r ≡ 0 → left ≡ 0
+        go [] e z = omega (arith, c.counted, ap (λ (s : List ℕ). length (keep f s)) e)
+        go (x ∷ r) e z = let no : ⊥ = omega arith in absurd no

@@ -3,3 +3,4 @@ pub mod Choice
 pub mod Collection
 pub mod Layouts
 pub mod Roles
+pub mod Made

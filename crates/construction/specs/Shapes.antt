@@ -1,20 +1,11 @@
--- A code as it is worked out: its shape, its marks, its layout, and what a position is for.
+-- A code as it is worked out: its marks, its layout, and what a position is for.
 -- Assumes nothing.
-use Rattle.std.specs.Prelude.{ℕ, ◌-◌, ◌^◌, ◌≡◌, cond, not, List, ◌++◌, eqb, leb, length, get_or, replicate}
+use Rattle.std.specs.Prelude.{ℕ, ◌-◌, ◌≡◌, cond, not, List, ◌++◌, eqb, leb, length, get_or, replicate}
+use Rattle.nr.specs.declared.code.Code.{Code}
 use Rattle.nr.specs.Rows.{count, keep}
-use Rattle.nr.specs.Construction.{rate_matching, Layout, exponent}
+use Rattle.nr.specs.Construction.{Layout}
 use Rattle.admission.specs.declared.Window.{Window}
-use Rattle.admission.specs.Window.{usable, admits}
-use Rattle.construction.specs.declared.Shape.{Shape}
-use Rattle.construction.specs.declared.Layout.{Layout as Made}
-
--- what the proofs need of a shape: K, n and N by the length, the kind, and a window that admits what is not barred
-pub record Shapes (K E : ℕ) (s : Shape) : Type 0 where
-  pub k : s.k ≡ K
-  pub n : s.n ≡ exponent E
-  pub len : s.len ≡ 2 ^ s.n
-  pub kind : s.kind ≡ rate_matching K E
-  pub window : (p : ℕ) → admits s.n s.window p ≡ usable (rate_matching K E) (2 ^ s.n) E p
+use Rattle.admission.specs.Window.{admits}
 
 -- the places of a row that are not 0
 abbrev pub marked : List ℕ → List ℕ
@@ -25,9 +16,10 @@ abbrev pub padded : List ℕ → List ℕ
 padded row = row ++ replicate (164 - length row) 0
 
 -- the code's layout is the definition's
-pub record Lays (l : Layout) (made : Made) : Type 0 where
-  pub n : made.n ≡ l.n
+pub record Lays (l : Layout) (made : Code) : Type 0 where
+  pub n : made.length.n ≡ l.n
   pub kind : made.kind ≡ l.kind
+  pub k : made.k ≡ length l.positions
   pub positions : made.positions ≡ padded l.positions
 
 -- what a position is for, by a row of marks below N: 4 past its end, `bar` outside the window, else the mark

@@ -3,132 +3,130 @@
 
 mod table;
 
-ghost use Rattle.std.specs.Prelude.{◌≡◌, ◌≤◌, ◌^◌, length, replicate, map};
+ghost use Rattle.std.specs.Prelude.{◌≡◌, ℕ, ◌≤◌, ◌^◌, length, replicate, map};
 ghost use Rattle.nr.specs.Rows.{count, keep, last};
 ghost use Rattle.nr.specs.Numbers.{K};
-ghost use Rattle.nr.specs.Answer.{refusal};
 ghost use Rattle.nr.specs.Reliability.{reliability};
-ghost use Rattle.nr.specs.Construction.{layout};
+ghost use Rattle.nr.specs.Construction.{exponent, rate_matching, layout};
 ghost use Rattle.nr.specs.SuccessiveDecoder.{marks};
 ghost use Rattle.nr.specs.Describing.{barred_as, roles};
-ghost use Rattle.admission.specs.Window.{ranks, admits};
-ghost use Rattle.construction.specs.Shapes.{Shapes, marked, padded, Lays, role_of};
+ghost use Rattle.admission.specs.Window.{usable, admits};
+ghost use Rattle.construction.specs.Shapes.{marked, padded, Lays, role_of};
 
 use admission::Window;
-use nr::RateMatching;
+use nr::{Code, CodeLength, RateMatching, Sizes};
+use table::RELIABILITY;
 
-// N = 2^n, how E bits are made of the N code bits, and the K information positions, ascending, with 0 past K.
+// The code for A and E: K, N, the kind, and the window of its positions.
 #[derive(Clone, Copy)]
-pub struct Layout {
-    pub n: usize,
-    pub kind: RateMatching,
-    pub positions: [u16; 164],
-}
-
-// A code's K, n, N = 2^n, kind, and the window of its positions.
-#[derive(Drop)]
 pub struct Shape {
+    pub sizes: Sizes,
     pub k: usize,
-    pub n: usize,
-    pub len: usize,
+    pub length: CodeLength,
     pub kind: RateMatching,
     pub window: Window,
+    pub ghost k_is: { k ≡ K sizes.a },
+    pub ghost n_is: { length.n ≡ exponent sizes.e },
+    pub ghost kind_is: { kind ≡ rate_matching (K sizes.a) sizes.e },
+    pub ghost window_is: { (p : ℕ) → admits length.n window p ≡ usable kind (2 ^ length.n) sizes.e p },
 }
 
 // The shape of the code for A and E.
-fn shape_of(a: u64, e: u64) -> Shape
-    requires { refusal a e ≡ 0 }
-    ensures { Shapes (K a) e result }
+fn shape_of(sizes: Sizes) -> Shape
+    ensures { result.sizes ≡ sizes }
 {
-    let k = (a as usize) + 24;
-    let e = e as usize;
-    let n = admission::exponent(e);
-    let len = 1 << n;
+    let k = sizes.a as usize + 24;
+    let e = sizes.e as usize;
+    let length = admission::exponent(e);
+    let len = length.bits();
     let kind = admission::rate_matching(k, e, len);
     let window = admission::window_of(kind, len, e);
     Shape {
+        sizes,
         k,
-        n,
-        len,
+        length,
         kind,
         window,
     }
 }
 
-// Marks the k most reliable of the positions that the window admits.
-fn choose(table: &[u16], inverse: &[u8], n: usize, w: Window, k: usize, row: &mut [u8])
-    requires table_value { (table.now ≡ reliability) × (inverse.now ≡ ranks) × (5 ≤ n) × (n ≤ 9) }
-    requires k_in_bounds { (k ≤ length (keep (admits n w) reliability)) × (row.old ≡ replicate (2 ^ n) 0) }
-    ensures { row.new ≡ marks (2 ^ n) (last k (keep (admits n w) reliability)) }
-{
-    let mut left = k;
-    let mut i = 512;
-    while 0 < left {
-        i -= 1;
-        let p = table[i] as usize;
-        if admission::is_admitted(inverse, n, w, p) {
-            row[p] = 1;
-            left -= 1;
+impl Shape {
+    // Marks the K most reliable of the positions that the window admits. K is above 0, so what is left is tested where it falls.
+    fn mark(self, row: &mut [u8; 512])
+        requires { row.old ≡ replicate 512 0 }
+        ensures { row.new ≡ marks 512 (last self.k (keep (admits self.length.n self.window) reliability)) }
+    {
+        let mut left = self.k;
+        for position in RELIABILITY.iter().rev() {
+            let p = usize::from(*position);
+            if self.window.admits(self.length, p) {
+                row[p] = 1;
+                left -= 1;
+                if left == 0 {
+                    return;
+                }
+            }
+        }
+    }
+
+    // What a position is for, as the byte that C reads: 4 past the row's end, `bar` outside the window, else its mark.
+    fn role(self, bar: u8, row: &[u8], p: usize) -> u8
+        ensures { result ≡ role_of self.length.n self.window bar row.now p }
+    {
+        if row.len() <= p {
+            return 4;
+        }
+        if self.window.admits(self.length, p) {
+            row[p]
+        } else {
+            bar
+        }
+    }
+
+    // What each position is for.
+    fn fill(self, bar: u8, row: &[u8], out: &mut [u8])
+        ensures { out.new ≡ map (role_of self.length.n self.window bar row.now) (count 0 (length out.old)) }
+    {
+        for (p, role) in out.iter_mut().enumerate() {
+            *role = self.role(bar, row, p);
         }
     }
 }
 
-// The same by the tables of the construction.
-fn mark(n: usize, w: Window, k: usize, row: &mut [u8])
-    requires { (5 ≤ n) × (n ≤ 9) × (k ≤ length (keep (admits n w) reliability)) × (row.old ≡ replicate (2 ^ n) 0) }
-    ensures { row.new ≡ marks (2 ^ n) (last k (keep (admits n w) reliability)) }
+// The marked positions, ascending, with 0 past them.
+fn collect(row: &[u8]) -> [u16; 164]
+    requires { (length row.now ≤ 512) × (length (marked row.now) ≤ 164) }
+    ensures { result ≡ padded (marked row.now) }
 {
-    let table = table::RELIABILITY;
-    let inverse = table::RANKS;
-    choose(&table, &inverse, n, w, k, row);
-}
-
-// The marked positions, ascending.
-fn collect(row: &[u8], positions: &mut [u16])
-    requires { (length row.now ≤ 512) × (length (marked row.now) ≤ 164) × (positions.old ≡ replicate 164 0) }
-    ensures { positions.new ≡ padded (marked row.now) }
-{
+    let mut positions = [0u16; 164];
     let mut j = 0;
-    let mut p = 0;
-    while p < row.len() {
-        let here = p;
-        p += 1;
-        if row[here] != 0 {
-            positions[j] = here as u16;
+    for (p, mark) in row.iter().enumerate() {
+        if *mark != 0 {
+            positions[j] = p as u16;
             j += 1;
         }
     }
-}
-
-// The k most reliable of the positions that the window admits, ascending, with 0 past k.
-fn select(n: usize, len: usize, w: Window, k: usize) -> [u16; 164]
-    requires le_n { (5 ≤ n) × (n ≤ 9) × (len ≡ 2 ^ n) }
-    requires k_in_bounds { (k ≤ length (keep (admits n w) reliability)) × (length (marked (marks (2 ^ n) (last k (keep (admits n w) reliability)))) ≤ 164) }
-    ensures { result ≡ padded (marked (marks (2 ^ n) (last k (keep (admits n w) reliability)))) }
-{
-    let mut row = [0u8; 512];
-    mark(n, w, k, &mut row[..len]);
-    let mut positions = [0u16; 164];
-    collect(&row[..len], &mut positions);
     positions
 }
 
 // The code for A and E.
-pub fn construct(a: u64, e: u64) -> Layout
-    requires { refusal a e ≡ 0 }
-    ensures { Lays (layout (K a) e) result }
+pub fn construct(sizes: Sizes) -> Code
+    ensures { Lays (layout (K sizes.a) sizes.e) result }
 {
-    let s = shape_of(a, e);
-    let k = s.k;
-    let n = s.n;
-    let len = s.len;
-    let kind = s.kind;
-    let w = s.window;
-    let positions = select(n, len, w, k);
-    Layout { n, kind, positions }
+    let shape = shape_of(sizes);
+    let mut row = [0u8; 512];
+    shape.mark(&mut row);
+    let positions = collect(&row[..shape.length.bits()]);
+    Code {
+        length: shape.length,
+        kind: shape.kind,
+        k: shape.k,
+        positions,
+    }
 }
 
-// The number of a barred position: 2 punctured, 3 shortened.
+// A barred position as the byte that C reads: 2 punctured, 3 shortened.
+#[tactic(auto, unfolding(nr::specs::Describing::barred_as))]
 fn barred_as(kind: RateMatching) -> u8
     ensures { result ≡ barred_as kind }
 {
@@ -139,47 +137,14 @@ fn barred_as(kind: RateMatching) -> u8
     }
 }
 
-// What a position is for: 4 past the row's end, `bar` outside the window, else its mark.
-fn role(inverse: &[u8], n: usize, w: Window, bar: u8, row: &[u8], p: usize) -> u8
-    requires { (inverse.now ≡ ranks) × (5 ≤ n) × (n ≤ 9) }
-    ensures { result ≡ role_of n w bar row.now p }
-{
-    if row.len() <= p {
-        return 4;
-    }
-    if admission::is_admitted(inverse, n, w, p) {
-        row[p]
-    } else {
-        bar
-    }
-}
-
-// What each position is for.
-fn fill(inverse: &[u8], n: usize, w: Window, bar: u8, row: &[u8], out: &mut [u8])
-    requires { (inverse.now ≡ ranks) × (5 ≤ n) × (n ≤ 9) }
-    ensures { out.new ≡ map (role_of n w bar row.now) (count 0 (length out.old)) }
-{
-    let mut i = 0;
-    while i < out.len() {
-        out[i] = role(inverse, n, w, bar, row, i);
-        i += 1;
-    }
-}
-
 // What each position of the code for A and E is for.
-pub fn describe(a: u64, e: u64, out: &mut [u8])
-    requires { (refusal a e ≡ 0) × (length out.old ≡ 512) }
-    ensures { out.new ≡ roles (K a) e }
+pub fn describe(sizes: Sizes, out: &mut [u8])
+    requires { length out.old ≡ 512 }
+    ensures { out.new ≡ roles (K sizes.a) sizes.e }
 {
-    let s = shape_of(a, e);
-    let k = s.k;
-    let n = s.n;
-    let len = s.len;
-    let kind = s.kind;
-    let w = s.window;
-    let bar = barred_as(kind);
+    let shape = shape_of(sizes);
+    let bar = barred_as(shape.kind);
     let mut row = [0u8; 512];
-    mark(n, w, k, &mut row[..len]);
-    let inverse = table::RANKS;
-    fill(&inverse, n, w, bar, &row[..len], out);
+    shape.mark(&mut row);
+    shape.fill(bar, &row[..shape.length.bits()], out);
 }

@@ -1,62 +1,31 @@
--- The code that `construct` makes for accepted A and E, in the form that `send` takes.
+-- The code that `construct` makes for the sizes of a call, in the form that coding and decoding take.
 -- Assumes nothing.
-use Prim.Native.Nat.{ℕ, ◌^◌, ◌≤◌}
-use native.Mathlib.Omega.{arith}
-use mathlib.Core.Path.{◌≡◌, sym, subst, ap, ◌∙◌}
-use mathlib.Core.List.{List}
-use lib.ListN.{length, take}
-use lib.Seq.{take_at, length-take-le}
-use Rattle.nr.specs.declared.RateMatching.{RateMatching}
+use Prim.Native.Nat.{ℕ, ◌+◌, ◌^◌}
+use mathlib.Core.Path.{◌≡◌, subst, ap₂}
+use Rattle.nr.specs.declared.Numbers.{Numbers}
+use Rattle.nr.specs.declared.Sizes.{Sizes}
+use Rattle.nr.specs.declared.code.Code.{Code}
 use Rattle.nr.specs.Numbers.{K}
 use Rattle.nr.specs.Answer.{refusal}
 use Rattle.nr.specs.Construction.{Layout, layout}
 use Rattle.nr.specs.RateMatching.{Fits}
-use Rattle.nr.proofs.Construction.{Sized, accepted, n-by-length, positions}
-use Rattle.nr.proofs.RoundTrip.{Sound}
-use Rattle.nr.proofs.Promise3.{sound}
-use Rattle.construction.specs.declared.Layout.{Layout as Made}
+use Rattle.nr.specs.Layouts.{layout_of}
 use Rattle.construction.specs.Shapes.{Lays}
-use Rattle.admission.proofs.Sizes.{size}
-use Rattle.construction.proofs.Collection.{length-padded}
-use Rattle.polar.specs.Codes.{Positions, code}
+use Rattle.construction.proofs.Made.{layout_of as layout-is, count, fits as fits-sizes}
 
-module _ (A E : ℕ) (e : refusal A E ≡ 0) (made : Made) (lays : Lays (layout (K A) E) made) where
-  sized : Sized (K A) E
-  sized = accepted A E e
+-- of the sizes that the checks hand on, which are the call's
+pub lays-for : (s : Numbers) (sizes : Sizes) (made : Code) → (sizes.a ≡ s.a) × (sizes.e ≡ s.e) → Lays (layout (K sizes.a) sizes.e) made → Lays (layout (K s.a) s.e) made
+lays-for s sizes made e = subst (λ (l : Layout). Lays l made) (ap₂ (λ (a e : ℕ). layout (K a) e) e.0 e.1)
 
-  count : length (layout (K A) E).positions ≡ K A
-  count = (positions (K A) E sized).size
+module _ (s : Numbers) (ok : refusal s.a s.e ≡ 0) (made : Code) (lays : Lays (layout (K s.a) s.e) made) where
+  abbrev sizes : Sizes
+  sizes = record { a = s.a; e = s.e; accepted = ok }
 
-  -- the first K of the 164 positions are the information positions
-  taken : take (K A) made.positions ≡ (layout (K A) E).positions
-  taken = ap (take (K A)) lays.positions ∙ take_at (layout (K A) E).positions _ (K A) count
+  pub code_is : layout_of made ≡ layout (K s.a) s.e
+  code_is = layout-is (layout (K s.a) s.e) made lays
 
-  pub code_is : code made.n made.kind (take (K A) made.positions) ≡ layout (K A) E
-  code_is =
-      let l : Layout = layout (K A) E in
-      let ps : List ℕ = take (K A) made.positions in
-      ap (λ (n : ℕ). code n made.kind ps) lays.n ∙ ap (λ (kind : RateMatching). code l.n kind ps) lays.kind
-      ∙ ap (code l.n l.kind) taken
+  pub row_is : made.k ≡ s.a + 24
+  row_is = count sizes made lays
 
-  -- there are as many
-  pub enough : K A ≤ length made.positions
-  enough = subst (λ (m : ℕ). K A ≤ m) (sym (ap length lays.positions ∙ length-padded (layout (K A) E).positions (omega (arith, count, sized.high)))) sized.high
-
-  pub exact : length (take (K A) made.positions) ≡ K A
-  exact = length-take-le (K A) made.positions enough
-
-  is-sound : Sound (code made.n made.kind (take (K A) made.positions)) E
-  is-sound = subst (λ (l : Layout). Sound l E) (sym code_is) (sound (K A) E sized)
-
-  pub low : 5 ≤ made.n
-  low = is-sound.large
-
-  pub high : made.n ≤ 9
-  unfolding layout
-  high = subst (λ (n : ℕ). n ≤ 9) (sym (lays.n ∙ n-by-length (K A) E sized)) (size E sized.length).high
-
-  pub fits : Fits made.kind (2 ^ made.n) E
-  fits = is-sound.fits
-
-  pub laid : Positions (2 ^ made.n) (take (K A) made.positions)
-  laid = record { few = is-sound.few; rising = is-sound.rising; below = is-sound.below }
+  pub fits : Fits made.kind (2 ^ made.length.n) s.e
+  fits = fits-sizes sizes made lays

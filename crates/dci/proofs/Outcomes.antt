@@ -11,9 +11,10 @@ use lib.Dec.{eqb, ltb}
 use lib.IntN.{ℤ, pos, nat_abs}
 use lib.ListN.{length, get_or, take, get_or-eq_default}
 use borrow.Author.Tests.{lt-ltb, le-ltb, ltb-false, ne_eqb}
+use Rattle.std.specs.Prelude.{Result, Ok, Err, Some, None}
 use Rattle.nr.specs.declared.Numbers.{Numbers}
-use Rattle.nr.specs.declared.Answer.{Answer}
-use Rattle.nr.specs.declared.Answer.TheVariants.{Done, BadEntry, ParityMismatch}
+use Rattle.nr.specs.declared.Refusal.{Refusal}
+use Rattle.nr.specs.declared.Refusal.TheVariants.{BadEntry}
 use Rattle.nr.specs.Rows.{first, Bits, Within}
 use Rattle.nr.specs.Numbers.{K}
 use Rattle.nr.specs.Answer.{first_number, tests, number, place_of, refusal_of, Outcome, outcome, given, Reading, reading, on_done}
@@ -26,8 +27,10 @@ use Rattle.nr.proofs.Chains.{ahead, behind, at_most}
 use Rattle.nr.proofs.Refusals.{Passes, passes-exactly, before-first}
 use Rattle.nr.proofs.Promise1.{outcome-number}
 use Rattle.nr.proofs.Recoding.{on-other}
-use Rattle.checks.specs.Checks.{size_refusal, Says}
-use Rattle.dci.specs.Judged.{judged}
+use Rattle.checks.specs.Checks.{size_refusal, Says, first_at}
+use Rattle.checks.proofs.Places.{first_at-some, first_at-none}
+use Rattle.checks.proofs.Refusing.{refused, done, passed_on}
+use Rattle.dci.specs.Judged.{counted, told, judged}
 
 -- ---- a row of five tests, and a last one behind them
 
@@ -45,16 +48,16 @@ module _ (ts : List Bool) (t : Bool) (at : ℕ) (new old : List ℕ) (five : len
         ∙ ap (λ (b : Bool). record { number = suc i; place = cond b at 0; buffer = old }) (ne_eqb (suc i) 6 (λ e. omega arith))
 
     -- one of the five applies
-    pub five-refused : (r : Answer) → Says (first_number 1 ts) r → (number r ≡ 0 → ⊥) → given r old ≡ outcome (f all-six) at new old
+    pub five-refused : {X : Type 0} (r : Result X Refusal) → Says (first_number 1 ts) r → (number r ≡ 0 → ⊥) → given r old ≡ outcome (f all-six) at new old
     unfolding given
     five-refused r y n =
         let m : first_number 1 ts ≡ 0 → ⊥ = λ e. n (y.number ∙ e) in
         cc (y.number, y.place, ahead 0 ts (t ∷ []) m, place-0 (first_number 1 ts) m (omega (arith, at_most 0 ts, five)))
 
     -- the last one does
-    pub last-refused : all-six ≡ 6 → (k : ℕ) → k ≡ at → given (BadEntry k) old ≡ outcome (f all-six) at new old
+    pub last-refused : (X : Type 0) → all-six ≡ 6 → (k : ℕ) → k ≡ at → given {X = X} (Err (BadEntry k)) old ≡ outcome (f all-six) at new old
     unfolding given number place_of outcome
-    last-refused e k q =
+    last-refused X e k q =
         ap (λ (at : ℕ). record { number = 6; place = at; buffer = old }) q
         ∙ sym (ap (λ (i : ℕ). outcome (f i) at new old) e ∙ ap (λ (j : ℕ). outcome j at new old) (keeps 5))
 
@@ -76,28 +79,29 @@ module _ {X : Type 0} (bad : X → Bool) (A E : ℕ) (input : List X) (asked : �
 
   -- the sizes are refused
   module _ (f : ℕ → ℕ) (keeps : (i : ℕ) → f (suc i) ≡ suc i) (at : ℕ) (new : List ℕ) where
-    pub size-refused : (r : Answer) → Says (first_number 1 sizes) r → (number r ≡ 0 → ⊥) → given r out ≡ outcome (f whole) at new out
+    pub size-refused : (Z : Type 0) {Y : Type 0} (r : Refusal) → Says {X = Y} (first_number 1 sizes) (Err r) → given {X = Z} (Err r) out ≡ outcome (f whole) at new out
     unfolding refusal_of
-    size-refused = five-refused sizes entry at new out refl f keeps
+    size-refused Z r y = five-refused sizes entry at new out refl f keeps (Err r) (passed_on y) (refused Z r)
 
-  module _ (r : Answer) (y : Says (first_number 1 sizes) r) (e : r ≡ Done) where
+  module _ {Y : Type 0} (y : Y) (says : Says (first_number 1 sizes) (Ok y)) where
     left : whole ≡ cond entry 6 0
-    unfolding number refusal_of
-    left = last-decides sizes entry 0 [] out refl (sym y.number ∙ ap number e)
+    unfolding refusal_of
+    left = last-decides sizes entry 0 [] out refl (sym says.number ∙ done y)
 
     -- an entry is refused
-    pub entry-refused : (f : ℕ → ℕ) (keeps : (i : ℕ) → f (suc i) ≡ suc i) (new : List ℕ) (k : ℕ) → k ≡ first bad input → k < length input
-        → given (BadEntry k) out ≡ outcome (f whole) (first bad input) new out
+    pub entry-refused : (Z : Type 0) (f : ℕ → ℕ) (keeps : (i : ℕ) → f (suc i) ≡ suc i) (new : List ℕ) (k : ℕ) → first_at bad input ≡ Some k
+        → given {X = Z} (Err (BadEntry k)) out ≡ outcome (f whole) (first bad input) new out
     unfolding refusal_of
-    entry-refused f keeps new k q l =
-        let m : first bad input < length input = omega arith in
-        last-refused sizes entry (first bad input) new out refl f keeps
-        (left ∙ ap (λ (b : Bool). cond b 6 0) (lt-ltb (first bad input) (length input) m)) k q
+    entry-refused Z f keeps new k e =
+        let p : (k ≡ first bad input) × (k < length input) = first_at-some bad input k e in
+        let m : first bad input < length input = omega (arith, p.0, p.1) in
+        last-refused sizes entry (first bad input) new out refl f keeps Z
+        (left ∙ ap (λ (b : Bool). cond b 6 0) (lt-ltb (first bad input) (length input) m)) k p.0
 
     -- none is
-    module _ (l : length input ≤ first bad input) where
+    module _ (l : first_at bad input ≡ None) where
       pub none : whole ≡ 0
-      none = left ∙ ap (λ (b : Bool). cond b 6 0) (le-ltb (first bad input) (length input) l)
+      none = left ∙ ap (λ (b : Bool). cond b 6 0) (le-ltb (first bad input) (length input) (first_at-none bad input l))
 
       pub passes : Passes A E bad input asked out wanted
       passes = (passes-exactly A E bad input asked out wanted).0 none
@@ -125,23 +129,23 @@ module _ (s : Numbers) (payload out : List ℕ) where
   unfolding coding coding_for
   coding-is = refl
 
-  module _ (r : Answer) (y : Says (size_refusal s.a s.e (length payload) s.a (length out) s.e) r) where
-    pub coding-sizes : (number r ≡ 0 → ⊥) → given r out ≡ coding s payload out
-    coding-sizes n = size-refused bad_byte s.a s.e payload s.a out s.e (λ i. i) (λ i. refl) (first bad_byte payload) row r y n ∙ sym coding-is
+  pub coding-sizes : (Z : Type 0) {Y : Type 0} (r : Refusal) → Says {X = Y} (size_refusal s.a s.e (length payload) s.a (length out) s.e) (Err r)
+      → given {X = Z} (Err r) out ≡ coding s payload out
+  coding-sizes Z r y = size-refused bad_byte s.a s.e payload s.a out s.e (λ i. i) (λ i. refl) (first bad_byte payload) row Z r y ∙ sym coding-is
 
-    module _ (e : r ≡ Done) where
-      pub coding-entry : (k : ℕ) → k ≡ first bad_byte payload → k < length payload → given (BadEntry k) out ≡ coding s payload out
-      coding-entry k q l = entry-refused bad_byte s.a s.e payload s.a out s.e r y e (λ i. i) (λ i. refl) row k q l ∙ sym coding-is
+  module _ {Y : Type 0} (y : Y) (says : Says (size_refusal s.a s.e (length payload) s.a (length out) s.e) (Ok y)) where
+    pub coding-entry : (Z : Type 0) (k : ℕ) → first_at bad_byte payload ≡ Some k → given {X = Z} (Err (BadEntry k)) out ≡ coding s payload out
+    coding-entry Z k e = entry-refused bad_byte s.a s.e payload s.a out s.e y says Z (λ i. i) (λ i. refl) row k e ∙ sym coding-is
 
-      module _ (l : length payload ≤ first bad_byte payload) where
-        pub coding-passes : Passes s.a s.e bad_byte payload s.a out s.e
-        coding-passes = passes bad_byte s.a s.e payload s.a out s.e r y e l
+    module _ (l : first_at bad_byte payload ≡ None) where
+      pub coding-passes : Passes s.a s.e bad_byte payload s.a out s.e
+      coding-passes = passes bad_byte s.a s.e payload s.a out s.e y says l
 
-        pub coding-done : (new : List ℕ) → new ≡ row → given Done new ≡ coding s payload out
-        unfolding given number place_of outcome
-        coding-done new q =
-            ap (λ (buffer : List ℕ). outcome 0 (first bad_byte payload) buffer out) q
-            ∙ ap (λ (i : ℕ). outcome i (first bad_byte payload) row out) (sym (none bad_byte s.a s.e payload s.a out s.e r y e l)) ∙ sym coding-is
+      pub coding-done : {Z : Type 0} (z : Z) (new : List ℕ) → new ≡ row → given (Ok z) new ≡ coding s payload out
+      unfolding given number place_of outcome
+      coding-done z new q =
+          ap (λ (buffer : List ℕ). outcome 0 (first bad_byte payload) buffer out) q
+          ∙ ap (λ (i : ℕ). outcome i (first bad_byte payload) row out) (sym (none bad_byte s.a s.e payload s.a out s.e y says l)) ∙ sym coding-is
 
 -- ---- decoding
 
@@ -153,15 +157,6 @@ pub parity-keeps : (A : ℕ) (b : List ℕ) (i : ℕ) → or_parity (suc i) A b 
 unfolding or_parity
 parity-keeps A b i = refl
 
--- 7 leaves the buffer as it was, 0 leaves the new row in it
-pub unmatched : (t : Bool) (new old : List ℕ) → t ≡ false → given ParityMismatch old ≡ outcome (cond t 0 7) 0 new old
-unfolding given number place_of outcome
-unmatched t new old e = sym (ap (λ (u : Bool). outcome (cond u 0 7) 0 new old) e)
-
-pub matched : (t : Bool) (row new old : List ℕ) → t ≡ true → row ≡ new → given Done row ≡ outcome (cond t 0 7) 0 new old
-unfolding given number place_of outcome
-matched t row new old e q = ap (λ (x : List ℕ). outcome 0 0 x old) q ∙ sym (ap (λ (u : Bool). outcome (cond u 0 7) 0 new old) e)
-
 -- neither 0 nor 7 carries a place
 placeless : (A : ℕ) (b new old : List ℕ) (at at' : ℕ) → outcome (or_parity 0 A b) at new old ≡ outcome (or_parity 0 A b) at' new old
 unfolding or_parity outcome
@@ -172,10 +167,11 @@ placeless A b new old at at' = go (parity_matches A b)
     go false = refl
 
 -- a refused call counts nothing
-quiet : (r : Answer) (j at count : ℕ) (new old : List ℕ) → given r old ≡ outcome j at new old → (number r ≡ 0 → ⊥)
-    → reading (given r old) 0 ≡ reading (outcome j at new old) (on_done j count)
+quiet : (r : Refusal) (j at count : ℕ) (new old : List ℕ) → given {X = ℕ} (Err r) old ≡ outcome j at new old
+    → reading (given {X = ℕ} (Err r) old) 0 ≡ reading (outcome j at new old) (on_done j count)
 unfolding given
-quiet r j at count new old e n = ap₂ reading e (sym (on-other j count (λ z. n (ap (λ (o : Outcome). o.number) e ∙ outcome-number j at new old ∙ z))))
+quiet r j at count new old e =
+    ap₂ reading e (sym (on-other j count (λ z. refused ℕ r (ap (λ (o : Outcome). o.number) e ∙ outcome-number j at new old ∙ z))))
 
 module _ (s : Numbers) (soft : List ℤ) (out : List ℕ) where
   abbrev l : Layout
@@ -205,24 +201,20 @@ module _ (s : Numbers) (soft : List ℤ) (out : List ℕ) where
       ∙ ap (λ (i : ℕ). by (or_parity i s.a b)) (sym ((passes-exactly s.a s.e bad_soft soft s.e out s.a).1 p))
       ∙ sym decoding-is
 
-  module _ (r : Answer) (y : Says (size_refusal s.a s.e (length soft) s.e (length out) s.a) r) where
-    pub decoding-sizes : (number r ≡ 0 → ⊥) → reading (given r out) 0 ≡ decoding s soft out
-    decoding-sizes n =
-        quiet r _ at (noise_of l s soft payload) payload out
-        (size-refused bad_soft s.a s.e soft s.e out s.a (λ i. or_parity i s.a b) (parity-keeps s.a b) at payload r y n) n
+  module _ {Y : Type 0} (y : Y) (says : Says (size_refusal s.a s.e (length soft) s.e (length out) s.a) (Ok y)) where
+    pub decoding-entry : (k : ℕ) → first_at bad_soft soft ≡ Some k → told (Err (BadEntry k)) out ≡ decoding s soft out
+    unfolding counted number
+    decoding-entry k e =
+        quiet (BadEntry k) _ at (noise_of l s soft payload) payload out
+        (entry-refused bad_soft s.a s.e soft s.e out s.a y says ℕ (λ i. or_parity i s.a b) (parity-keeps s.a b) payload k e)
         ∙ sym decoding-is
 
-    module _ (e : r ≡ Done) where
-      pub decoding-entry : (k : ℕ) → k ≡ first bad_soft soft → k < length soft → reading (given (BadEntry k) out) 0 ≡ decoding s soft out
-      unfolding number
-      decoding-entry k q h =
-          quiet (BadEntry k) _ at (noise_of l s soft payload) payload out
-          (entry-refused bad_soft s.a s.e soft s.e out s.a r y e (λ i. or_parity i s.a b) (parity-keeps s.a b) payload k q h) (λ z. omega arith)
-          ∙ sym decoding-is
+    pub decoding-passes : first_at bad_soft soft ≡ None → Passes s.a s.e bad_soft soft s.e out s.a
+    decoding-passes = passes bad_soft s.a s.e soft s.e out s.a y says
 
-      module _ (h : length soft ≤ first bad_soft soft) where
-        pub decoding-passes : Passes s.a s.e bad_soft soft s.e out s.a
-        decoding-passes = passes bad_soft s.a s.e soft s.e out s.a r y e h
-
-        pub decoding-judged : {found : Reading} → found ≡ judged s soft out → found ≡ decoding s soft out
-        decoding-judged q = q ∙ judged-decoding decoding-passes
+  pub decoding-sizes : {Y : Type 0} (r : Refusal) → Says {X = Y} (size_refusal s.a s.e (length soft) s.e (length out) s.a) (Err r) → told (Err r) out ≡ decoding s soft out
+  unfolding counted
+  decoding-sizes r y =
+      quiet r _ at (noise_of l s soft payload) payload out
+      (size-refused bad_soft s.a s.e soft s.e out s.a (λ i. or_parity i s.a b) (parity-keeps s.a b) at payload ℕ r y)
+      ∙ sym decoding-is

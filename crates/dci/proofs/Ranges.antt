@@ -2,16 +2,18 @@
 -- Assumes nothing.
 use Prim.Native.Nat.{ℕ, suc}
 use native.Mathlib.Omega.{arith}
-use mathlib.Core.Path.{◌≡◌, refl, sym, ap₂}
+use mathlib.Core.Path.{◌≡◌, refl, sym, ap, ap₂}
 use mathlib.Core.Bool.{Bool, true, false, cond, ◌||◌}
 use mathlib.Core.List.{List, [], ◌∷◌}
 use lib.Dec.{ltb}
 use lib.IntN.{ℤ, pos, negsuc}
+use lib.ListN.{length}
 use borrow.Author.Tests.{lt-ltb, le-ltb, ltb-true, ltb-false}
+use Rattle.std.specs.Prelude.{Some, None}
 use Rattle.nr.specs.Rows.{first}
 use Rattle.nr.specs.Decoding.{bad_soft}
 use Rattle.nr.specs.Loopback.{bad_strength}
-use Rattle.checks.specs.Checks.{beyond}
+use Rattle.checks.specs.Checks.{beyond, first_at}
 
 first-same : {X : Type 0} (f g : X → Bool) → ((x : X) → f x ≡ g x) → (row : List X) → first f row ≡ first g row
 first-same f g e [] = refl
@@ -28,6 +30,9 @@ soft-beyond (negsuc n) = go (ltb 126 n) refl
 
 pub first-soft : (row : List ℤ) → first (beyond (negsuc 126) (pos 127)) row ≡ first bad_soft row
 first-soft = first-same (beyond (negsuc 126) (pos 127)) bad_soft soft-beyond
+
+pub first_at-soft : (row : List ℤ) → first_at (beyond (negsuc 126) (pos 127)) row ≡ first_at bad_soft row
+first_at-soft row = ap (λ (i : ℕ). cond (ltb i (length row)) (Some i) None) (first-soft row)
 
 pub first-strength : (row : List ℤ) → first (beyond (pos 1) (pos 127)) row ≡ first bad_strength row
 unfolding bad_strength

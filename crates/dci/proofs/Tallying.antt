@@ -9,68 +9,78 @@ use lib.IntN.{ℤ}
 use lib.ListN.{length, take}
 use Rattle.nr.specs.declared.Numbers.{Numbers}
 use Rattle.nr.specs.declared.RateMatching.{RateMatching}
+use Rattle.nr.specs.declared.code.Code.{Code}
 use Rattle.nr.specs.Rows.{xors, Bits}
 use Rattle.nr.specs.Numbers.{K}
-use Rattle.nr.specs.Answer.{refusal, on_done}
 use Rattle.nr.specs.Parity.{parity_matches}
 use Rattle.nr.specs.Construction.{Layout, layout}
 use Rattle.nr.specs.RateMatching.{select}
 use Rattle.nr.specs.Scrambling.{gold, c_init}
 use Rattle.nr.specs.Noise.{noise_count}
+use Rattle.nr.specs.Answer.{refusal, on_done}
 use Rattle.nr.specs.Decoding.{decided, received, or_parity, noise_of}
+use Rattle.nr.specs.Layouts.{layout_of}
 use Rattle.nr.proofs.Tests.{holds}
 use Rattle.nr.proofs.Transform.{bits-transform}
 use Rattle.nr.proofs.SuccessiveDecoder.{bits-successive}
 use Rattle.nr.proofs.Construction.{accepted, positions}
 use Rattle.nr.proofs.Recoding.{coded-again}
-use Rattle.construction.specs.declared.Layout.{Layout as Made}
 use Rattle.construction.specs.Shapes.{Lays}
 use Rattle.dci.specs.Judged.{decided_word}
+use Rattle.dci.proofs.Judging.{Handed, as_asked}
 
--- counted only where the parity matched
-pub uncounted : (t : Bool) (count : ℕ) → t ≡ false → 0 ≡ on_done (cond t 0 7) count
-unfolding on_done
-uncounted t count e = sym (ap (λ (u : Bool). on_done (cond u 0 7) count) e)
+-- the code word of any row
+pub bits-word : (l : Layout) (e : ℕ) (q : List ℕ) (soft : List ℤ) → Bits (decided_word l e q soft)
+unfolding decided
+bits-word l e q soft = bits-transform l.n (decided l e q soft) (bits-successive _ _ _)
 
-pub counted : (t : Bool) (r count : ℕ) → t ≡ true → r ≡ count → r ≡ on_done (cond t 0 7) count
-unfolding on_done
-counted t r count e q = q ∙ sym (ap (λ (u : Bool). on_done (cond u 0 7) count) e)
-
-module _ (s : Numbers) (soft : List ℤ) where
+module _ {s : Numbers} {made : Code} {sequence : List ℕ} {soft : List ℤ} {out : List ℕ} (h : Handed s made sequence soft out) where
   abbrev l : Layout
   l = layout (K s.a) s.e
+
+  few : length l.positions ≤ 164
+  few = let z = accepted s.a s.e h.ok in omega (arith, (positions (K s.a) s.e z).size, z.high)
+
+  -- what the decided word sends, against the soft values
+  abbrev tally : Layout → ℕ → List ℕ → ℕ
+  tally l e q = noise_count soft (xors (select l.kind (2 ^ l.n) e (decided_word l e q soft)) q)
+
+  -- where the parity matches, the decided word is that of the payload coded again
+  pub counted-again : parity_matches s.a (received l s.e s.rnti (c_init s) soft) ≡ true
+      → tally (layout_of made) (length soft) sequence ≡ noise_of l s soft (take s.a (received l s.e s.rnti (c_init s) soft))
+  unfolding noise_of
+  counted-again m = as_asked h tally ∙ ap (noise_count soft) (sym (coded-again l s.e s.rnti (c_init s) soft few s.a (holds m)))
+
+-- so a count that is made where it matches, and else is 0, is that of decoding
+module _ (s : Numbers) (soft : List ℤ) (ok : refusal s.a s.e ≡ 0) (size : length soft ≡ s.e) (made : Code) (lays : Lays (layout (K s.a) s.e) made) where
+  abbrev lay : Layout
+  lay = layout (K s.a) s.e
 
   abbrev c : List ℕ
   c = gold (c_init s) s.e
 
-  abbrev pub word : List ℕ
-  word = decided_word l s.e c soft
+  abbrev word : List ℕ
+  word = decided_word lay s.e c soft
 
   abbrev b : List ℕ
-  b = received l s.e s.rnti (c_init s) soft
+  b = received lay s.e s.rnti (c_init s) soft
 
-  pub bits-word : Bits word
-  unfolding decided
-  bits-word = bits-transform l.n (decided l s.e c soft) (bits-successive _ _ _)
+  at-most : length lay.positions ≤ 164
+  at-most = let z = accepted s.a s.e ok in omega (arith, (positions (K s.a) s.e z).size, z.high)
 
-  -- where the parity matches, the decided word is that of the payload coded again
-  module _ (ok : refusal s.a s.e ≡ 0) (size : length soft ≡ s.e) (made : Made) (lays : Lays l made) where
-    few : length l.positions ≤ 164
-    few = let z = accepted s.a s.e ok in omega (arith, (positions (K s.a) s.e z).size, z.high)
+  abbrev sent : RateMatching → ℕ → ℕ → List ℕ
+  sent kind n E = xors (select kind (2 ^ n) E word) c
 
-    abbrev sent : RateMatching → ℕ → ℕ → List ℕ
-    sent kind n E = xors (select kind (2 ^ n) E word) c
+  sent_is : sent made.kind made.length.n (length soft) ≡ sent lay.kind lay.n s.e
+  sent_is =
+      ap₂ (λ (kind : RateMatching) (n : ℕ). sent kind n (length soft)) lays.kind lays.n
+      ∙ ap (sent lay.kind lay.n) size
 
-    sent_is : sent made.kind made.n (length soft) ≡ sent l.kind l.n s.e
-    sent_is =
-        ap₂ (λ (kind : RateMatching) (n : ℕ). sent kind n (length soft)) lays.kind lays.n
-        ∙ ap (sent l.kind l.n) size
-
-    pub tallied : (t : Bool) → parity_matches s.a b ≡ t → (noise : ℕ)
-        → noise ≡ on_done (cond t 0 7) (noise_count soft (sent made.kind made.n (length soft)))
-        → noise ≡ on_done (or_parity 0 s.a b) (noise_of l s soft (take s.a b))
-    unfolding or_parity on_done noise_of
-    tallied true m noise e =
-        e ∙ ap (noise_count soft) (sent_is ∙ sym (coded-again l s.e s.rnti (c_init s) soft few s.a (holds m)))
-        ∙ sym (ap (λ (t : Bool). on_done (cond t 0 7) (noise_of l s soft (take s.a b))) m)
-    tallied false m noise e = e ∙ sym (ap (λ (t : Bool). on_done (cond t 0 7) (noise_of l s soft (take s.a b))) m)
+  pub tallied : (t : Bool) → parity_matches s.a b ≡ t → (noise : ℕ)
+      → noise ≡ on_done (cond t 0 7) (noise_count soft (sent made.kind made.length.n (length soft)))
+      → noise ≡ on_done (or_parity 0 s.a b) (noise_of lay s soft (take s.a b))
+  unfolding or_parity on_done noise_of
+  tallied true m noise e =
+      e ∙ ap (noise_count soft) (sent_is ∙ sym (coded-again lay s.e s.rnti (c_init s) soft at-most s.a (holds m)))
+      ∙ sym (ap (λ (t : Bool). on_done (cond t 0 7) (noise_of lay s soft (take s.a b))) m)
+  tallied false m noise e = e ∙ sym (ap (λ (t : Bool). on_done (cond t 0 7) (noise_of lay s soft (take s.a b))) m)

@@ -43,26 +43,26 @@ pub record Counted (K k m x : ℕ) : Type 0 where
   pub next : k + 1 ≡ before K (m + 1)
   pub spot : get_or (pattern K) k 0 ≡ x - (164 - K)
 
-module _ {table : List ℕ} (same : table ≡ interleaver) {K : ℕ} (few : K ≤ 164) {k : ℕ} (m : ℕ) (l : m < 164) (e : k ≡ before K m) where
-  is : get_or interleaver m 0 ≡ get_or table m 0
-  is = ap (λ (r : List ℕ). get_or r m 0) (sym same)
+module _ {table : List ℕ} (same : table ≡ interleaver) {K : ℕ} (few : K ≤ 164) {k m x : ℕ} (l : m < 164) (read : x ≡ get_or table m 0) (e : k ≡ before K m) where
+  is : get_or interleaver m 0 ≡ x
+  is = ap (λ (r : List ℕ). get_or r m 0) (sym same) ∙ sym read
 
   inside : m < length interleaver
   inside = omega (arith, table-length)
 
-  pub skips : get_or table m 0 < 164 - K → k ≡ before K (m + 1)
+  pub skips : x < 164 - K → k ≡ before K (m + 1)
   skips s = e ∙ sym (passed-miss (leb (164 - K)) interleaver m inside (lt-leb (164 - K) (get_or interleaver m 0) (omega (arith, is))))
 
-  pub counts : 164 - K ≤ get_or table m 0 → Counted K k m (get_or table m 0)
+  pub counts : 164 - K ≤ x → Counted K k m x
   unfolding pattern
   counts s = record {
     room = omega (arith, e, kept, kept-length K few);
-    below = subst (λ (x : ℕ). x < 164) is (ltb→lt (get_or interleaver m 0) 164 (all-has (λ x. ltb x 164) interleaver table_below (get_or interleaver m 0) (has_get_d interleaver m 0 inside)));
+    below = subst (λ (y : ℕ). y < 164) is (ltb→lt (get_or interleaver m 0) 164 (all-has (λ y. ltb y 164) interleaver table_below (get_or interleaver m 0) (has_get_d interleaver m 0 inside)));
     next = ap (λ (j : ℕ). j + 1) e ∙ sym (passed-hit (leb (164 - K)) interleaver m inside hit);
     spot =
         ap (λ (j : ℕ). get_or (pattern K) j 0) e
-        ∙ get_d_map (λ x. x - (164 - K)) (keep (leb (164 - K)) interleaver) (before K m) 0 0 kept
-        ∙ ap (λ (x : ℕ). x - (164 - K)) (passed_entry (leb (164 - K)) interleaver m inside hit ∙ is);
+        ∙ get_d_map (λ y. y - (164 - K)) (keep (leb (164 - K)) interleaver) (before K m) 0 0 kept
+        ∙ ap (λ (y : ℕ). y - (164 - K)) (passed_entry (leb (164 - K)) interleaver m inside hit ∙ is);
   }
     where
       hit : leb (164 - K) (get_or interleaver m 0) ≡ true

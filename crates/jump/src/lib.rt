@@ -4,29 +4,27 @@
 
 mod masks;
 
-ghost use Rattle.std.specs.Prelude.{◌≡◌, ◌<◌, ◌^◌, length};
+ghost use Rattle.std.specs.Prelude.{◌≡◌, ◌<◌, ◌^◌};
 ghost use Rattle.nr.specs.Scrambling.{step1, step2, after};
 ghost use Rattle.jump.specs.Parities.{jumped};
 
 // x1 after the jump from 1, where 38.211 starts it.
 const X1_FROM_ONE: u32 = 0x5e485840;
 
-// Bit i of the result is the count of the ones that mask i leaves of `s`, mod 2. From the top bit down it is compiled to the
-// processor's parity flag; upwards it would be a count in vectors.
+// Bit i of the result is the count of the ones that mask i leaves of `s`, mod 2: the processor counts them (popcnt). For one that
+// cannot, the loop from the top bit down is compiled to the parity flag; upwards it would be a count in vectors.
 fn jump(masks: &[u32; 31], s: u32) -> u32
-    requires { length masks.now ≡ 31 }
     ensures { result ≡ jumped masks.now s }
 {
     let mut r: u32 = 0;
-    let mut i = 31;
-    while 0 < i {
-        i -= 1;
-        r = r * 2 + u32::count_ones(s & masks[i]) % 2;
+    for mask in masks.iter().rev() {
+        r = r * 2 + (s & *mask).count_ones() % 2;
     }
     r
 }
 
-// x1's register 1,600 terms on. The sequence always starts it from 1, so that this state is a constant.
+// x1's register 1,600 terms on. The sequence always starts it from 1, so that this state is a constant, which x2 has none
+// of.
 pub fn x1(s: u32) -> u32
     requires { s < 2 ^ 31 }
     ensures { result ≡ after step1 1600 s }
@@ -34,8 +32,7 @@ pub fn x1(s: u32) -> u32
     if s == 1 {
         X1_FROM_ONE
     } else {
-        let masks = masks::X1;
-        jump(&masks, s)
+        jump(&masks::X1, s)
     }
 }
 
@@ -44,6 +41,5 @@ pub fn x2(s: u32) -> u32
     requires { s < 2 ^ 31 }
     ensures { result ≡ after step2 1600 s }
 {
-    let masks = masks::X2;
-    jump(&masks, s)
+    jump(&masks::X2, s)
 }

@@ -2,6 +2,7 @@
 pub mod Tests
 pub mod Chains
 pub mod Rows
+pub mod Lengths
 pub mod Zip
 pub mod Words
 pub mod Ints

@@ -16,7 +16,7 @@ use Rattle.nr.specs.Rows.{count, has, xor, Bits}
 use Rattle.nr.specs.Construction.{J, unsent, rank}
 use Rattle.nr.specs.Transform.{transform}
 use Rattle.nr.specs.RateMatching.{sub_blocks, selected, select, Fits}
-use Rattle.nr.specs.SuccessiveDecoder.{negate_if, plus, certain, gather, code_row}
+use Rattle.nr.specs.SuccessiveDecoder.{negate_if, certain, gather, code_row}
 use Rattle.nr.proofs.Tests.{holds, is, clash}
 use Rattle.nr.proofs.Rows.{length-picked, get_d_picked}
 use Rattle.nr.proofs.Zip.{bits-entries}

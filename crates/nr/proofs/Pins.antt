@@ -9,7 +9,9 @@ use lib.Dec.{T, eqb}
 use lib.IntN.{ℤ, pos, negsuc, nat_abs}
 use lib.ListN.{get_or, take}
 use Rattle.nr.specs.declared.RateMatching.TheVariants.{Repetition, Puncturing, Shortening}
-use Rattle.nr.specs.declared.Answer.TheVariants.{Done, PayloadSize, CodedLength, TooManyBits, InputLength, OutputLength, BadEntry, ParityMismatch}
+use Rattle.std.specs.Prelude.{Result, Ok, Err}
+use Rattle.nr.specs.declared.Refusal.{Refusal}
+use Rattle.nr.specs.declared.Refusal.TheVariants.{PayloadSize, CodedLength, TooManyBits, InputLength, OutputLength, BadEntry, ParityMismatch, NoCandidate}
 use Rattle.nr.specs.Rows.{count, has, bit, all}
 use Rattle.nr.specs.Answer.{number, place_of}
 use Rattle.nr.specs.Reliability.{reliability}
@@ -98,15 +100,18 @@ zero-decides = refl
 -- ---- the numbers
 
 -- the table of the numbers given back, and of the places that they carry
-pub numbers : (k : ℕ)
-    → map number (Done ∷ PayloadSize ∷ CodedLength ∷ TooManyBits ∷ InputLength ∷ OutputLength ∷ BadEntry k ∷ ParityMismatch ∷ []) ≡ 0 ∷ 1 ∷ 2 ∷ 3 ∷ 4 ∷ 5 ∷ 6 ∷ 7 ∷ []
-unfolding number
-numbers k = refl
+abbrev answers : {X : Type 0} → X → ℕ → List (Result X Refusal)
+answers x k =
+    Ok x ∷ Err PayloadSize ∷ Err CodedLength ∷ Err TooManyBits ∷ Err InputLength ∷ Err OutputLength ∷ Err (BadEntry k) ∷ Err ParityMismatch
+    ∷ Err NoCandidate ∷ []
 
-pub places : (k : ℕ)
-    → map place_of (Done ∷ PayloadSize ∷ CodedLength ∷ TooManyBits ∷ InputLength ∷ OutputLength ∷ BadEntry k ∷ ParityMismatch ∷ []) ≡ 0 ∷ 0 ∷ 0 ∷ 0 ∷ 0 ∷ 0 ∷ k ∷ 0 ∷ []
+pub numbers : {X : Type 0} (x : X) (k : ℕ) → map number (answers x k) ≡ 0 ∷ 1 ∷ 2 ∷ 3 ∷ 4 ∷ 5 ∷ 6 ∷ 7 ∷ 8 ∷ []
+unfolding number
+numbers x k = refl
+
+pub places : {X : Type 0} (x : X) (k : ℕ) → map place_of (answers x k) ≡ 0 ∷ 0 ∷ 0 ∷ 0 ∷ 0 ∷ 0 ∷ k ∷ 0 ∷ 0 ∷ []
 unfolding place_of
-places k = refl
+places x k = refl
 
 -- the roles of barred positions
 pub barred-roles : map barred_as (Repetition ∷ Puncturing ∷ Shortening ∷ []) ≡ 2 ∷ 2 ∷ 3 ∷ []

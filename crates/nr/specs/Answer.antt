@@ -1,8 +1,8 @@
 -- Document 01, "Numbers given back".
 -- Assumes nothing.
-use Rattle.std.specs.Prelude.{ℕ, zero, suc, Bool, cond, not, ◌||◌, List, [], ◌∷◌, eqb, ltb, length}
-use Rattle.nr.specs.declared.Answer.{Answer}
-use Rattle.nr.specs.declared.Answer.TheVariants.{Done, PayloadSize, CodedLength, TooManyBits, InputLength, OutputLength, BadEntry, ParityMismatch}
+use Rattle.std.specs.Prelude.{ℕ, zero, suc, Bool, cond, not, ◌||◌, List, [], ◌∷◌, eqb, ltb, length, Result, Ok, Err}
+use Rattle.nr.specs.declared.Refusal.{Refusal}
+use Rattle.nr.specs.declared.Refusal.TheVariants.{PayloadSize, CodedLength, TooManyBits, InputLength, OutputLength, BadEntry, ParityMismatch, NoCandidate}
 use Rattle.nr.specs.Rows.{has, first}
 use Rattle.nr.specs.Numbers.{K}
 
@@ -10,27 +10,29 @@ use Rattle.nr.specs.Numbers.{K}
 abbrev pub lengths : List ℕ
 lengths = 108 ∷ 216 ∷ 432 ∷ 864 ∷ 1728 ∷ []
 
--- the number of each answer
-unfoldable pub number : Answer → ℕ
-number Done = 0
-number PayloadSize = 1
-number CodedLength = 2
-number TooManyBits = 3
-number InputLength = 4
-number OutputLength = 5
-number (BadEntry k) = 6
-number ParityMismatch = 7
+-- the number of each answer: 0 where the call did its work, else that of the refusal
+unfoldable pub number : {X : Type 0} → Result X Refusal → ℕ
+number (Ok x) = 0
+number (Err PayloadSize) = 1
+number (Err CodedLength) = 2
+number (Err TooManyBits) = 3
+number (Err InputLength) = 4
+number (Err OutputLength) = 5
+number (Err (BadEntry k)) = 6
+number (Err ParityMismatch) = 7
+number (Err NoCandidate) = 8
 
 -- the place that it carries; 0 where the paper gives none
-unfoldable pub place_of : Answer → ℕ
-place_of Done = 0
-place_of PayloadSize = 0
-place_of CodedLength = 0
-place_of TooManyBits = 0
-place_of InputLength = 0
-place_of OutputLength = 0
-place_of (BadEntry k) = k
-place_of ParityMismatch = 0
+unfoldable pub place_of : {X : Type 0} → Result X Refusal → ℕ
+place_of (Ok x) = 0
+place_of (Err PayloadSize) = 0
+place_of (Err CodedLength) = 0
+place_of (Err TooManyBits) = 0
+place_of (Err InputLength) = 0
+place_of (Err OutputLength) = 0
+place_of (Err (BadEntry k)) = k
+place_of (Err ParityMismatch) = 0
+place_of (Err NoCandidate) = 0
 
 -- the numbers from i on, one for each test in turn: the first whose test applies, 0 if none does
 abbrev pub first_number : ℕ → List Bool → ℕ
@@ -67,7 +69,7 @@ outcome zero at new old = record { number = 0; place = 0; buffer = new }
 outcome (suc i) at new old = record { number = suc i; place = cond (eqb (suc i) 6) at 0; buffer = old }
 
 -- an answer of the code with the buffer that it leaves, as an outcome
-unfoldable pub given : Answer → List ℕ → Outcome
+unfoldable pub given : {X : Type 0} → Result X Refusal → List ℕ → Outcome
 given r buffer = record { number = number r; place = place_of r; buffer = buffer }
 
 -- what a call that decodes gives: the same, and the noise count

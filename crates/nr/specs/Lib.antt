@@ -8,6 +8,8 @@ pub mod Parity
 pub mod Interleaver
 pub mod Reliability
 pub mod Construction
+pub mod Codes
+pub mod Layouts
 pub mod Transform
 pub mod RateMatching
 pub mod Scrambling

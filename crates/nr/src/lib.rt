@@ -1,6 +1,13 @@
 // The declared types of document 01's calls. What they mean is defined in specs/.
 #![tactic(auto)]
 
+mod code;
+
+ghost use Rattle.std.specs.Prelude.{◌≡◌};
+ghost use Rattle.nr.specs.Answer.{refusal};
+
+pub use code::{Code, CodeLength};
+
 // The numbers that set a call: payload size A, coded length E, RNTI, scrambling identity n_ID, and n_RNTI, which is 0 where the
 // scrambler starts from n_ID alone.
 #[derive(Clone, Copy)]
@@ -10,6 +17,14 @@ pub struct Numbers {
     pub rnti: u16,
     pub n_id: u16,
     pub n_rnti: u16,
+}
+
+// Sizes that are accepted: none of 1 to 3 applies to A and E.
+#[derive(Clone, Copy, PartialEq, Eq)]
+pub struct Sizes {
+    pub a: u64,
+    pub e: u64,
+    pub ghost accepted: { refusal a e ≡ 0 },
 }
 
 // A candidate of a search: a message that may lie in `level` CCEs from CCE `first` on, its payload size A, its RNTI and its n_RNTI.
@@ -30,11 +45,9 @@ pub enum RateMatching {
     Shortening,
 }
 
-// What a call answers. `number` and `place_of` of specs/Answer.antt give document 01's number and place for each.
+// Why a call did no work. `number` and `place_of` of specs/Answer.antt give document 01's number and place for each.
 #[derive(Clone, Copy)]
-pub enum Answer {
-    // 0: the output holds the result.
-    Done,
+pub enum Refusal {
     // 1: A outside 12..140.
     PayloadSize,
     // 2: E is none of the coded lengths.
@@ -49,4 +62,6 @@ pub enum Answer {
     BadEntry(usize),
     // 7: decoding ran, the parity does not match.
     ParityMismatch,
+    // 8: none of a search's candidates decodes.
+    NoCandidate,
 }

@@ -7,6 +7,9 @@ ghost use Rattle.nr.specs.Rows.{msb_first, Bits};
 ghost use Rattle.nr.specs.Parity.{parity, attach, mask_rnti, parity_matches};
 ghost use Rattle.parity.specs.Register.{taken, Holds};
 
+// How many parity bits there are: p0 to p23.
+const PARITY_BITS: usize = 24;
+
 // The generator below D^24.
 const GENERATOR: u32 = 0xB2B117;
 
@@ -18,7 +21,7 @@ fn feed(register: u32, bit: u8) -> u32
     requires { (register < 2 ^ 24) × (bit ≤ 1) }
     ensures { Holds (taken (msb_first 24 register) bit) result }
 {
-    let lead = ((register >> 23) ^ (bit as u32)) & 1;
+    let lead = ((register >> 23) ^ u32::from(bit)) & 1;
     ((register << 1) & 0xFFFFFF) ^ (lead * GENERATOR)
 }
 
@@ -28,23 +31,19 @@ fn parity(payload: &[u8]) -> u32
     ensures { Holds (parity payload.now) result }
 {
     let mut register = AFTER_ONES;
-    let mut i = 0;
-    while i < payload.len() {
-        register = feed(register, payload[i]);
-        i += 1;
+    for bit in payload {
+        register = feed(register, *bit);
     }
     register
 }
 
-// The row becomes the 24 lowest bits of a word, most significant first.
+// The row becomes the 24 lowest bits of a word, most significant first. The loop's end is a constant, so that it is unrolled.
 fn write_bits(word: u32, row: &mut [u8])
     requires { length row.old ≡ 24 }
     ensures { row.new ≡ msb_first 24 word }
 {
-    let mut i = 0;
-    while i < 24 {
-        row[i] = ((word >> (23 - i)) & 1) as u8;
-        i += 1;
+    for i in 0..PARITY_BITS {
+        row[i] = ((word >> (PARITY_BITS - 1 - i)) & 1) as u8;
     }
 }
 
@@ -55,7 +54,7 @@ pub fn attach(payload: &[u8], rnti: u16, row: &mut [u8])
 {
     let a = payload.len();
     rows::copy(payload, &mut row[..a]);
-    write_bits(parity(payload) ^ (rnti as u32), &mut row[a..]);
+    write_bits(parity(payload) ^ u32::from(rnti), &mut row[a..]);
 }
 
 // The word whose 24 bits a row holds, most significant first.
@@ -64,10 +63,8 @@ fn read_bits(row: &[u8]) -> u32
     ensures { Holds row.now result }
 {
     let mut word = 0;
-    let mut j = 0;
-    while j < 24 {
-        word = (word << 1) + (row[j] as u32);
-        j += 1;
+    for bit in row {
+        word = (word << 1) + u32::from(*bit);
     }
     word
 }
@@ -77,7 +74,7 @@ pub fn matches(row: &[u8], rnti: u16) -> bool
     requires { (24 ≤ length row.now) × Bits row.now }
     ensures { result ≡ parity_matches (length row.now - 24) (mask_rnti rnti row.now) }
 {
-    let a = row.len() - 24;
+    let a = row.len() - PARITY_BITS;
     let last = read_bits(&row[a..]);
-    parity(&row[..a]) == (last ^ (rnti as u32))
+    parity(&row[..a]) == (last ^ u32::from(rnti))
 }

@@ -1,16 +1,16 @@
 -- Blocks of a row, one after the other: the loop of `stage`, and blocks that are made of the two halves before them.
 -- Assumes nothing.
-use Prim.Native.Nat.{ℕ, zero, suc, ◌+◌, ◌*◌, ◌/◌, ◌%◌, ◌≤◌, ◌<◌}
-use native.Mathlib.Nat.{suc-mul, div-add-mod'}
+use Prim.Native.Nat.{ℕ, zero, suc, ◌+◌, ◌*◌, ◌/◌, ◌≤◌, ◌<◌}
+use native.Mathlib.Nat.{suc-mul, mul_comm, mul-le-mul_right, div-mul-le_self, div-div-eq-div-mul}
+use native.Mathlib.Numerals.{add-one}
 use native.Mathlib.Omega.{arith}
-use mathlib.Core.Path.{◌≡◌, refl, sym, ap, ap₂, ◌∙◌, subst}
+use mathlib.Core.Path.{◌≡◌, refl, sym, ap, ap₂, ◌∙◌}
 use mathlib.Core.List.{List, ◌++◌, append_assoc, append-nil}
 use lib.ListN.{length, take, drop, length-append, length-drop, take-append-drop, drop_of_length-le}
-use lib.Seq.{length-take-le, take_all, drop-drop, take-add, take_at, drop_at}
+use lib.Seq.{length-take-le, take_all, drop-drop, take-add, take_at, drop_at, take-append-add, drop-append-add}
 use Rattle.nr.specs.Rows.{Bits}
 use Rattle.nr.proofs.Zip.{bits-append, bits-take, bits-drop}
-use Rattle.polar.specs.Blocks.{joined, each}
-use Rattle.polar.proofs.Halves.{bits-joined}
+use Rattle.polar.specs.Blocks.{each}
 
 -- ---- one f
 
@@ -31,81 +31,51 @@ module _ (f : List ℕ → List ℕ) (size : ℕ) where
       bits-append (f (take size row)) (each f size m (drop size row)) (g (take size row) (bits-take size row b))
       (bits_each g m (drop size row) (bits-drop size row b))
 
--- ---- a loop over the blocks: what stands before `at` is done, and f of the blocks from there on makes the goal
+-- ---- a loop over the blocks
 
-pub record Left (f : List ℕ → List ℕ) (size : ℕ) (goal x : List ℕ) (at : ℕ) : Type 0 where
-  pub blocks : ℕ
-  pub whole : length x ≡ at + blocks * size
-  pub reaches : take at x ++ each f size blocks (drop at x) ≡ goal
-
--- where the loop begins
-pub left-all : (f : List ℕ → List ℕ) (size : ℕ) (x : List ℕ) → length x % size ≡ 0 → Left f size (each f size (length x / size) x) x 0
-left-all f size x e = record {
-  blocks = length x / size;
-  whole = sym (div-add-mod' (length x) size) ∙ omega arith;
-  reaches = refl;
-}
-
-module _ {f : List ℕ → List ℕ} {size : ℕ} {goal x : List ℕ} {at : ℕ} where
-  -- a block's room, where there is something left
-  pub room : Left f size goal x at → at < length x → at + size ≤ length x
-  room w h = go w.blocks w.whole
-    where
-      go : (m : ℕ) → length x ≡ at + m * size → at + size ≤ length x
-      go zero e = omega arith
-      go (suc m) e = omega (arith, suc-mul m size)
-
-  -- where the loop ends
-  pub left-none : Left f size goal x at → 0 < size → length x ≤ at → x ≡ goal
-  left-none w p h = go w.blocks w.whole w.reaches
-    where
-      go : (m : ℕ) → length x ≡ at + m * size → take at x ++ each f size m (drop at x) ≡ goal → x ≡ goal
-      go zero e r = sym (take-append-drop at x) ∙ r
-      go (suc m) e r = let z : ⊥ = omega (arith, suc-mul m size) in absurd z
+module _ (f : List ℕ → List ℕ) (size : ℕ) (keeps : (u : List ℕ) → length u ≡ size → length (f u) ≡ size) where
+  -- the block after the first b, which are done
+  each-more : (b : ℕ) (row : List ℕ) → suc b * size ≤ length row
+      → take (b * size) (each f size b row) ++ (f (take size (drop (b * size) (each f size b row))) ++ drop size (drop (b * size) (each f size b row)))
+      ≡ each f size (suc b) row
+  each-more zero row l =
+      let none : 0 * size ≡ 0 = omega arith in
+      ap (λ (k : ℕ). take k row ++ (f (take size (drop k row)) ++ drop size (drop k row))) none
+  each-more (suc b) row l =
+      let u : List ℕ = f (take size row) in
+      let x : List ℕ = each f size b (drop size row) in
+      let lu : length u ≡ size = keeps (take size row) (length-take-le size row (omega (arith, suc-mul (suc b) size))) in
+      let far : suc b * size ≡ length u + b * size = omega (arith, suc-mul b size, lu) in
+      let front : take (suc b * size) (u ++ x) ≡ u ++ take (b * size) x = ap (λ (k : ℕ). take k (u ++ x)) far ∙ take-append-add u x (b * size) in
+      let behind : drop (suc b * size) (u ++ x) ≡ drop (b * size) x = ap (λ (k : ℕ). drop k (u ++ x)) far ∙ drop-append-add u x (b * size) in
+      ap₂ (λ (p q : List ℕ). p ++ (f (take size q) ++ drop size q)) front behind
+      ∙ append_assoc u (take (b * size) x) (f (take size (drop (b * size) x)) ++ drop size (drop (b * size) x))
+      ∙ ap (λ (r : List ℕ). u ++ r) (each-more b (drop size row) (omega (arith, length-drop size row, suc-mul (suc b) size)))
 
   -- a turn: y is the next block by f
-  left-turn : Left f size goal x at → at < length x → (y : List ℕ) → length y ≡ size → y ≡ f (take size (drop at x))
-      → Left f size goal (take at x ++ (y ++ drop size (drop at x))) (at + size)
-  left-turn w h y l e = go w.blocks w.whole w.reaches
-    where
-      rest : List ℕ
-      rest = drop size (drop at x)
+  pub each-next : (b : ℕ) (row x y : List ℕ) (at k : ℕ) → x ≡ each f size b row → at ≡ b * size → k ≡ size → at + size ≤ length row → y ≡ f (take k (drop at x))
+      → take at x ++ (y ++ drop k (drop at x)) ≡ each f size (b + 1) row
+  each-next b row x y at k e p q l r =
+      ap (λ (z : List ℕ). take at x ++ (z ++ drop k (drop at x))) r
+      ∙ ap₂ (λ (i j : ℕ). take i x ++ (f (take j (drop i x)) ++ drop j (drop i x))) p q
+      ∙ ap (λ (z : List ℕ). take (b * size) z ++ (f (take size (drop (b * size) z)) ++ drop size (drop (b * size) z))) e
+      ∙ each-more b row (omega (arith, suc-mul b size))
+      ∙ ap (λ (i : ℕ). each f size i row) (sym (add-one b))
 
-      new : List ℕ
-      new = take at x ++ (y ++ rest)
+-- as many blocks as the code counts, and the room of one of them
+pub count : (len h : ℕ) → len / h / 2 ≡ len / (2 * h)
+count len h = div-div-eq-div-mul len h 2 ∙ ap (λ (w : ℕ). len / w) (mul_comm h 2)
 
-      lp : length (take at x ++ y) ≡ at + size
-      lp = length-append (take at x) y ∙ omega (arith, length-take-le at x (omega arith))
-
-      before : take (at + size) new ≡ take at x ++ y
-      before = ap (take (at + size)) (sym (append_assoc (take at x) y rest)) ∙ take_at (take at x ++ y) rest (at + size) lp
-
-      behind : drop (at + size) new ≡ rest
-      behind = ap (drop (at + size)) (sym (append_assoc (take at x) y rest)) ∙ drop_at (take at x ++ y) rest (at + size) lp
-
-      go : (m : ℕ) → length x ≡ at + m * size → take at x ++ each f size m (drop at x) ≡ goal → Left f size goal new (at + size)
-      go zero e' r = let z : ⊥ = omega arith in absurd z
-      go (suc m) e' r = record {
-        blocks = m;
-        whole = ap length (sym (append_assoc (take at x) y rest)) ∙ length-append (take at x ++ y) rest ∙ omega (arith, lp, length-drop size (drop at x), length-drop at x, suc-mul m size);
-        reaches =
-            ap₂ (λ (p q : List ℕ). p ++ each f size m q) before behind
-            ∙ append_assoc (take at x) y (each f size m rest)
-            ∙ ap (λ (p : List ℕ). take at x ++ (p ++ each f size m rest)) e
-            ∙ r;
-      }
-
-  -- the same with the size as the code counts it
-  pub left-next : Left f size goal x at → at < length x → (k : ℕ) → k ≡ size → (y : List ℕ) → length y ≡ size → y ≡ f (take k (drop at x))
-      → Left f size goal (take at x ++ (y ++ drop k (drop at x))) (at + size)
-  left-next w h k q y l e = rw q (left-turn w h y l (rw q at e))
-
--- a block of bits, joined in its place
-pub bits-next : (half at k : ℕ) (x y : List ℕ) → Bits x → y ≡ joined half (take k (drop at x)) → Bits (take at x ++ (y ++ drop k (drop at x)))
-bits-next half at k x y b e =
-    bits-append (take at x) (y ++ drop k (drop at x)) (bits-take at x b)
-    (bits-append y (drop k (drop at x)) (subst Bits (sym e) (bits-joined (take k (drop at x)) half (bits-take k (drop at x) (bits-drop at x b))))
-    (bits-drop k (drop at x) (bits-drop at x b)))
+pub room : (len h b : ℕ) → b < len / h / 2 → 2 * h * b + 2 * h ≤ len
+room len h b l =
+    omega (
+      arith,
+      count len h,
+      mul-le-mul_right {m = suc b} {n = len / (2 * h)} (2 * h) (omega (arith, count len h)),
+      div-mul-le_self len (2 * h),
+      suc-mul b (2 * h),
+      mul_comm (2 * h) b,
+    )
 
 -- ---- the halves of each block by f, then the block by g: the block by k
 

@@ -7,7 +7,7 @@ use native.Mathlib.Omega.{arith}
 use mathlib.Core.Path.{◌≡◌, sym, ap, ap₂, ◌∙◌}
 use mathlib.Core.List.{List, ◌++◌}
 use lib.Bits.{bit_xor}
-use lib.ListN.{length, get_or, set, take, drop, length-drop}
+use lib.ListN.{length, get_or, set, take, drop, length-append, length-drop}
 use lib.Seq.{length-take-le, take-suc, drop-cons, append_snoc, set_at, get_or-take, get_or-drop, take_all}
 use Rattle.nr.specs.Rows.{xor, xors, Bits}
 use Rattle.nr.proofs.Rows.{get_or-behind}
@@ -35,6 +35,12 @@ fill-next s u i ls lu =
 -- joined halves are bits
 pub bits-joined : (u : List ℕ) (h : ℕ) → Bits u → Bits (joined h u)
 bits-joined u h b = bits-append (sums h u) (drop h u) (bits-xors (take h u) (drop h u)) (bits-drop h u b)
+
+-- and as many as there were
+pub length-joined : (h : ℕ) (u : List ℕ) → length u ≡ 2 * h → length (joined h u) ≡ 2 * h
+length-joined h u e =
+    length-append (sums h u) (drop h u)
+    ∙ omega (arith, length-xors h (take h u) (drop h u) (length-take-le h u (omega arith)) (length-drop h u ∙ omega arith), length-drop h u)
 
 module _ (u : List ℕ) (h : ℕ) (e : length u ≡ 2 * h) where
   -- each half, and the row of sums, is h entries long

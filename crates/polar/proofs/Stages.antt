@@ -1,8 +1,9 @@
 -- The stages of the transform, once for every n: after j of them each block of 2 ^ j entries holds its own transform.
 -- Assumes nothing.
 use Prim.Native.Nat.{ℕ, suc, ◌+◌, ◌-◌, ◌*◌, ◌/◌, ◌%◌, ◌^◌, ◌≤◌, ◌<◌}
-use native.Mathlib.Nat.{mul-mod_left, mul-div_cancel, pow-suc, pow-succ'}
+use native.Mathlib.Nat.{mul-mod_left, mul-div_cancel, pow-succ'}
 use native.Mathlib.Numerals.{add-one}
+use native.Mathlib.Decide.{dec_le}
 use native.Mathlib.Omega.{arith}
 use mathlib.Core.Path.{◌≡◌, refl, sym, ap, ap₂, ◌∙◌, subst}
 use mathlib.Core.List.{List, ◌++◌}
@@ -34,28 +35,33 @@ next-stage j m row e =
 
 -- ---- the loop over the stages
 
--- after j stages: blocks of half = 2 ^ j entries, each with its transform
-pub record Staged (n : ℕ) (u : List ℕ) (j half : ℕ) (x : List ℕ) : Type 0 where
+-- after j stages: blocks of 2 ^ j entries, each with its transform
+pub record Staged (n : ℕ) (u : List ℕ) (j : ℕ) (x : List ℕ) : Type 0 where
   pub stages : j ≤ n
-  pub width : half ≡ 2 ^ j
   pub size : length x ≡ 2 ^ n
   pub bits : Bits x
   pub holds : x ≡ each (transform j) (2 ^ j) (2 ^ (n - j)) u
 
 module _ (n : ℕ) (u : List ℕ) (e : length u ≡ 2 ^ n) where
+  -- there are fewer stages than a word has bits
+  pub fewer : length u < 2 ^ 64 → n < 64
+  fewer l = elim (dec_le 64 n) [
+    | yes h ↦ let m : 2 ^ 64 ≤ 2 ^ n = pow_mono {i = 64} {j = n} h in absurd (omega arith)
+    | no h ↦ omega arith
+  ]
+
   -- before the first stage
-  pub staged-none : Bits u → Staged n u 0 1 u
+  pub staged-none : Bits u → Staged n u 0 u
   unfolding transform
   staged-none b = record {
     stages = omega arith;
-    width = refl;
     size = e;
     bits = b;
     holds = sym (each_same (transform 0) 1 (λ v. refl) (2 ^ (n - 0)) u);
   }
 
   -- after the last
-  pub staged-all : {j half : ℕ} {x : List ℕ} → Staged n u j half x → n ≤ j → x ≡ transform n u
+  pub staged-all : {j : ℕ} {x : List ℕ} → Staged n u j x → n ≤ j → x ≡ transform n u
   staged-all {j} s l =
       let p : j ≡ n = omega arith in
       let z : n - n ≡ 0 = omega arith in
@@ -64,44 +70,38 @@ module _ (n : ℕ) (u : List ℕ) (e : length u ≡ 2 ^ n) where
       ∙ ap (λ (i : ℕ). each (transform n) (2 ^ n) (2 ^ i) u) z
       ∙ each-whole (transform n) (2 ^ n) u (omega arith)
 
-  module _ {j half : ℕ} {x : List ℕ} (s : Staged n u j half x) (l : j < n) where
-    -- the row is 2 ^ (n - (j + 1)) blocks of 2 * half entries
-    count : length x ≡ 2 ^ (n - (j + 1)) * (2 * half)
+  module _ {j : ℕ} {x : List ℕ} (s : Staged n u j x) (l : j < n) where
+    -- the row is 2 ^ (n - (j + 1)) blocks of 2 * 2 ^ j entries
+    count : length x ≡ 2 ^ (n - (j + 1)) * (2 * 2 ^ j)
     count =
         let p : n ≡ (n - (j + 1)) + suc j = omega arith in
-        s.size ∙ ap (λ (i : ℕ). 2 ^ i) p ∙ pow-add 2 (n - (j + 1)) (suc j)
-        ∙ ap (λ (w : ℕ). 2 ^ (n - (j + 1)) * w) (pow-succ' 2 j ∙ ap (λ (w : ℕ). 2 * w) (sym s.width))
+        s.size ∙ ap (λ (i : ℕ). 2 ^ i) p ∙ pow-add 2 (n - (j + 1)) (suc j) ∙ ap (λ (w : ℕ). 2 ^ (n - (j + 1)) * w) (pow-succ' 2 j)
 
-    -- blocks are not empty
-    wide : 0 < half
-    wide = omega (arith, s.width, pow_pos j)
+    module _ (half : ℕ) (w : half ≡ 2 ^ j) where
+      -- what a stage asks
+      pub asked : (0 < half) × ((length x % (2 * half) ≡ 0) × Bits x)
+      asked = (
+        omega (arith, w, pow_pos j),
+        (rw w (ap (λ (i : ℕ). i % (2 * 2 ^ j)) count ∙ mul-mod_left (2 ^ (n - (j + 1))) (2 * 2 ^ j)), s.bits),
+      )
 
-    -- what a stage asks
-    pub asked : (0 < half) × ((length x % (2 * half) ≡ 0) × Bits x)
-    asked = (wide, (ap (λ (i : ℕ). i % (2 * half)) count ∙ mul-mod_left (2 ^ (n - (j + 1))) (2 * half), s.bits))
-
-    -- twice as wide, the row is still long enough
-    pub fits : half * 2 ≤ length x
-    fits = omega (arith, s.size, s.width, pow-suc 2 j, pow_mono {i = suc j} {j = n} (omega arith))
-
-    -- one stage more
-    pub staged-next : (y : List ℕ) → length y ≡ length x → y ≡ each (joined half) (2 * half) (length x / (2 * half)) x → Staged n u (j + 1) (half * 2) y
-    staged-next y ly q =
-        let m : ℕ = 2 ^ (n - (j + 1)) in
-        let double : 2 ^ (n - j) ≡ 2 * m =
-        let p : n - j ≡ suc (n - (j + 1)) = omega arith in
-        ap (λ (i : ℕ). 2 ^ i) p ∙ pow-succ' 2 (n - (j + 1)) in
-        let blocks : length x / (2 * half) ≡ m = ap (λ (i : ℕ). i / (2 * half)) count ∙ mul-div_cancel m (omega (arith, wide)) in
-        let long : length u ≡ m * (2 * 2 ^ j) = e ∙ sym s.size ∙ count ∙ ap (λ (w : ℕ). m * (2 * w)) s.width in
-        let now : x ≡ each (transform j) (2 ^ j) (2 * m) u = s.holds ∙ ap (λ (i : ℕ). each (transform j) (2 ^ j) i u) double in record {
-          stages = omega arith;
-          width = rw add-one (omega (arith, s.width, pow-suc 2 j));
-          size = ly ∙ s.size;
-          bits = subst Bits (sym q) (bits_each (joined half) (2 * half) (λ v b. bits-joined v half b) (length x / (2 * half)) x s.bits);
-          holds =
-              q
-              ∙ ap (λ (i : ℕ). each (joined half) (2 * half) i x) blocks
-              ∙ ap₂ (λ (w : ℕ) (v : List ℕ). each (joined w) (2 * w) m v) s.width now
-              ∙ next-stage j m u long
-              ∙ ap (λ (i : ℕ). each (transform i) (2 ^ i) m u) (sym (add-one j));
-        }
+      -- one stage more
+      pub staged-next : (y : List ℕ) → length y ≡ length x → y ≡ each (joined half) (2 * half) (length x / (2 * half)) x → Staged n u (j + 1) y
+      staged-next y ly q =
+          let m : ℕ = 2 ^ (n - (j + 1)) in
+          let double : 2 ^ (n - j) ≡ 2 * m =
+          let p : n - j ≡ suc (n - (j + 1)) = omega arith in
+          ap (λ (i : ℕ). 2 ^ i) p ∙ pow-succ' 2 (n - (j + 1)) in
+          let blocks : length x / (2 * 2 ^ j) ≡ m = ap (λ (i : ℕ). i / (2 * 2 ^ j)) count ∙ mul-div_cancel m (omega (arith, pow_pos j)) in
+          let long : length u ≡ m * (2 * 2 ^ j) = e ∙ sym s.size ∙ count in
+          let now : x ≡ each (transform j) (2 ^ j) (2 * m) u = s.holds ∙ ap (λ (i : ℕ). each (transform j) (2 ^ j) i u) double in record {
+            stages = omega arith;
+            size = ly ∙ s.size;
+            bits = subst Bits (sym q) (bits_each (joined half) (2 * half) (λ v b. bits-joined v half b) (length x / (2 * half)) x s.bits);
+            holds =
+                q
+                ∙ ap (λ (h : ℕ). each (joined h) (2 * h) (length x / (2 * h)) x) w
+                ∙ ap₂ (λ (i : ℕ) (v : List ℕ). each (joined (2 ^ j)) (2 * 2 ^ j) i v) blocks now
+                ∙ next-stage j m u long
+                ∙ ap (λ (i : ℕ). each (transform i) (2 ^ i) m u) (sym (add-one j));
+          }

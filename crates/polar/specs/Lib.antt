@@ -1,4 +1,3 @@
 -- The definitions that the contracts cite.
 -- Assumes nothing.
 pub mod Blocks
-pub mod Codes

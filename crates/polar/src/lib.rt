@@ -7,33 +7,32 @@ ghost use Rattle.nr.specs.Rows.{xors, Bits};
 ghost use Rattle.nr.specs.Transform.{transform};
 ghost use Rattle.nr.specs.Coding.{placed};
 ghost use Rattle.polar.specs.Blocks.{joined, each};
-ghost use Rattle.polar.specs.Codes.{Positions};
+ghost use Rattle.nr.specs.Codes.{Positions};
 
-// The code bits of two halves become those of the whole: the second half is added to the first.
+// The code bits of two halves become those of the whole: the second half is added to the first. By
+// index, since both are of one row.
 pub fn combine(block: &mut [u8], half: usize)
     requires block_len { length block.old ≡ 2 * half }
     requires bits { Bits block.old }
     ensures { block.new ≡ xors (take half block.old) (drop half block.old) ++ drop half block.old }
 {
-    let mut i = 0;
-    while i < half {
-        let k = half + i;
-        block[i] = block[i] ^ block[k];
-        i += 1;
+    for i in 0..half {
+        block[i] ^= block[half + i];
     }
 }
 
-// One stage: `combine` in each block of 2 * half entries, one after the other.
+// One stage: `combine` in each block of 2 * half entries, one after the other. By index: of blocks that `chunks_exact_mut` lends nothing
+// is known once they are back.
 fn stage(row: &mut [u8], half: usize)
     requires half_nonzero { 0 < half }
     requires half_len { length row.old % (2 * half) ≡ 0 }
     requires bits { Bits row.old }
     ensures { row.new ≡ each (joined half) (2 * half) (length row.old / (2 * half)) row.old }
 {
-    let mut at = 0;
-    while at < row.len() {
+    // 2 * half itself may not fit its word where the row is empty.
+    for b in 0..row.len() / half / 2 {
+        let at = 2 * half * b;
         combine(&mut row[at..at + 2 * half], half);
-        at += 2 * half;
     }
 }
 
@@ -43,12 +42,8 @@ pub fn transform(n: usize, row: &mut [u8])
     requires bits { Bits row.old }
     ensures { row.new ≡ transform n row.old }
 {
-    let mut half = 1;
-    let mut j = 0;
-    while j < n {
-        stage(row, half);
-        half = half * 2;
-        j += 1;
+    for j in 0..n {
+        stage(row, 1 << j);
     }
 }
 
@@ -58,10 +53,8 @@ pub fn place(bits: &[u8], positions: &[u16], u: &mut [u8])
     requires u_value { u.old ≡ replicate (length u.old) 0 }
     ensures { u.new ≡ placed (length u.old) positions.now bits.now }
 {
-    let mut i = 0;
-    while i < bits.len() {
-        let p = positions[i] as usize;
-        u[p] = bits[i];
-        i += 1;
+    for (i, bit) in bits.iter().enumerate() {
+        let p = usize::from(positions[i]);
+        u[p] = *bit;
     }
 }

@@ -1,7 +1,7 @@
 -- A row that is filled from the front by pieces of another, over and over.
 -- Assumes nothing.
 use Prim.Native.Nat.{ℕ, ◌+◌, ◌-◌, ◌*◌, ◌/◌, ◌%◌, ◌≤◌, ◌<◌}
-use native.Mathlib.Nat.{mod-eq_of_lt, mul-add-mod_self_left, div-add-mod}
+use native.Mathlib.Nat.{le_of_lt, mod-eq_of_lt, mul-add-mod_self_left, div-add-mod}
 use native.Mathlib.Omega.{arith}
 use mathlib.Core.Path.{◌≡◌, sym, subst, ap, ap₂, ◌∙◌}
 use mathlib.Core.List.{List, map, ◌++◌, append_assoc}
@@ -10,7 +10,9 @@ use lib.Seq.{take_at, drop_at, drop-drop, take-add, length-take-le, get_or-take,
 use borrow.Rule.Slice.PartMut.{put_mid}
 use Rattle.nr.specs.Rows.{count, entries}
 use Rattle.nr.proofs.Rows.{length-picked, get_d_picked}
-use Rattle.rows.proofs.Filling.{Filling, filling-length}
+use Rattle.std.specs.Prelude.{min}
+use Rattle.std.proofs.Math.Nat.{min-eq_left}
+use Rattle.rows.proofs.Filling.{Filling, filling-length, filled}
 
 -- the next k entries of the new row come back in a part
 pub filling-piece : {A : Type 0} {old new row : List A} {i : ℕ} → Filling old new row i → (k j : ℕ) (piece : List A) → i + k ≡ j → j ≤ length new
@@ -62,3 +64,18 @@ module _ (y : List ℕ) (E : ℕ) where
   next-piece {old} {row} {i} s f z j piece b l h p =
       filling-piece f (j - i) j piece (omega arith) (omega (arith, filling-length f, length-cycle))
       (p ∙ sym (cycle-anew i (j - i) z (omega arith) (omega (arith, filling-length f))))
+
+  -- a turn puts the next piece, or what has room of it; i goes past E in the last
+  pub next-turn : {old row : List ℕ} {i : ℕ} → length old ≡ E → Filling old (cycle y E) row (min i E) → i % length y ≡ 0 → i < E
+      → (k : ℕ) → k ≡ min (length y) (E - i) → (piece : List ℕ) → piece ≡ take k y
+      → Filling old (cycle y E) (put_mid i (i + k - i) row piece) (min (i + length y) E)
+  next-turn {old} {row} {i} s f z l k e piece p =
+      let g : Filling old (cycle y E) row i = subst (λ (j : ℕ). Filling old (cycle y E) row j) (min-eq_left (le_of_lt l)) f in
+      let j : i + k ≡ min (i + length y) E = omega (arith, e) in
+      let same : k ≡ i + k - i = omega arith in
+      subst (λ (j : ℕ). Filling old (cycle y E) (put_mid i (i + k - i) row piece) j) j
+      (next-piece s g z (i + k) piece (omega arith) (omega (arith, e)) (omega (arith, filling-length g, e)) (p ∙ ap (λ (m : ℕ). take m y) same))
+
+  -- after the last
+  pub cycled : {old row : List ℕ} {i : ℕ} → Filling old (cycle y E) row (min i E) → E ≤ i → row ≡ cycle y E
+  cycled f l = filled f (omega (arith, length-cycle))

@@ -3,7 +3,7 @@
 use Prim.Native.Nat.{ℕ, ◌+◌, ◌-◌, ◌≤◌, ◌<◌}
 use native.Mathlib.Omega.{arith}
 use mathlib.Core.Path.{◌≡◌, sym, subst, ap, ◌∙◌}
-use mathlib.Core.List.{List, ◌++◌, map}
+use mathlib.Core.List.{List, map}
 use lib.ListN.{length, get_or, take, drop, length-drop}
 use lib.Seq.{length-take-le, get_or-take, get_or-drop, ext_get_or}
 use Rattle.nr.specs.declared.RateMatching.{RateMatching}
@@ -12,7 +12,6 @@ use Rattle.nr.specs.Rows.{count, entries}
 use Rattle.nr.specs.RateMatching.{sub_blocks, selected, select, Fits}
 use Rattle.nr.proofs.Rows.{length-picked, get_d_picked}
 use Rattle.nr.proofs.Matching.{length-sub_blocks}
-use Rattle.rows.proofs.Parts.{front-back, front-room}
 use Rattle.rate_matching.proofs.Pieces.{cycle}
 
 -- E entries from place a on are a part
@@ -52,28 +51,16 @@ module _ (y : List ℕ) (E : ℕ) where
     unfolding selected
     sent-shortening e l = ap sent e ∙ picked-part (selected Shortening (length y) E) 0 E y (omega arith) (λ k m. omega arith)
 
--- ---- the code word in sub-block order, at the front of a longer row
+-- ---- the code word in sub-block order
 
-module _ (d : List ℕ) {N : ℕ} {a : List ℕ} (is : a ≡ sub_blocks N d) (size : length d ≡ N) (rest : List ℕ) where
-  -- as long as the code word
-  made : length a ≡ length d
-  made = ap length is ∙ length-sub_blocks N d ∙ sym size
+module _ (N : ℕ) (d : List ℕ) {y : List ℕ} (is : y ≡ sub_blocks N d) where
+  -- it has N bits
+  pub ordered-length : length y ≡ N
+  ordered-length = ap length is ∙ length-sub_blocks N d
 
-  -- it is the front
-  pub front : take (length d) (a ++ rest) ≡ sub_blocks N d
-  front = front-back a rest (length d) made ∙ is
-
-  -- so the front has N entries
-  pub front_length : length (take (length d) (a ++ rest)) ≡ N
-  front_length = ap length front ∙ length-sub_blocks N d
-
-  -- and lies in the row
-  pub front-le : length d ≤ length (a ++ rest)
-  front-le = front-room a rest (length d) made
-
-  -- the sent bits of the code word
-  pub selects : (kind : RateMatching) (E : ℕ) → sent (take (length d) (a ++ rest)) E kind ≡ select kind N E d
+  -- the sent ones
+  pub selects : (kind : RateMatching) (E : ℕ) → sent y E kind ≡ select kind N E d
   unfolding select
   selects kind E =
-      ap (λ (y : List ℕ). sent y E kind) front
+      ap (λ (y : List ℕ). sent y E kind) is
       ∙ ap (λ (n : ℕ). entries (map (selected kind n E) (count 0 E)) (sub_blocks N d)) (length-sub_blocks N d)

@@ -7,7 +7,7 @@ use mathlib.Core.Path.{◌≡◌, refl, ap, ap₂, ◌∙◌}
 use mathlib.Core.List.{List, ◌∷◌, ◌++◌, append-nil}
 use borrow.Rule.Slice.PartMut.{put_mid}
 use lib.ListN.{length, get_or, take, drop, replicate, length-append, length-replicate, get_or-append}
-use lib.Seq.{take_at, drop_at, drop-drop, drop-length, length-take-le, get_or-take, get_or-drop, get_or-append-add}
+use lib.Seq.{take_at, drop_at, drop-length, length-take-le, get_or-take, get_or-append-add}
 
 module _ {A : Type 0} where
   -- the front came back, and then the rest
@@ -38,16 +38,6 @@ module _ {A : Type 0} where
 
     pub part-before : (p : ℕ) → p < a → get_or (put_mid a k xs ys) p d ≡ get_or xs p d
     part-before p l = get_or-append (take a xs) (ys ++ drop k (drop a xs)) d p (omega (arith, front-is)) ∙ get_or-take a xs p d l
-
-    pub part-behind : (p : ℕ) → a + k ≤ p → get_or (put_mid a k xs ys) p d ≡ get_or xs p d
-    part-behind p l =
-        let e : p ≡ length (take a xs) + (length ys + (p - (a + k))) = omega (arith, front-is) in
-        let e' : a + k + (p - (a + k)) ≡ p = omega arith in
-        ap (λ (j : ℕ). get_or (put_mid a k xs ys) j d) e
-        ∙ get_or-append-add (take a xs) (ys ++ drop k (drop a xs)) (length ys + (p - (a + k))) d
-        ∙ get_or-append-add ys (drop k (drop a xs)) (p - (a + k)) d
-        ∙ ap (λ (r : List A). get_or r (p - (a + k)) d) (drop-drop k a xs)
-        ∙ get_or-drop (a + k) xs (p - (a + k)) d ∙ ap (λ (j : ℕ). get_or xs j d) e'
 
   -- ---- rows made of one value
 

@@ -3,28 +3,23 @@
 
 ghost use Rattle.std.specs.Prelude.{◌≡◌, length, replicate};
 
-// `to` becomes `from`.
-pub fn copy(from: &[u8], to: &mut [u8])
+// `to` becomes `from`. The loop is compiled into a move where the length is a number, and else into a call of memcpy; the library's
+// `copy_from_slice` keeps a test of its own beside each.
+pub fn copy<T: Copy>(from: &[T], to: &mut [T])
     requires { length to.old ≡ length from.now }
     ensures { to.new ≡ from.now }
 {
-    let mut i = 0;
-    while i < from.len() {
-        to[i] = from[i];
-        i += 1;
+    for (i, x) in to.iter_mut().enumerate() {
+        *x = from[i];
     }
 }
 
-// The same for soft values.
-pub fn copy_soft(from: &[i32], to: &mut [i32])
-    requires { length to.old ≡ length from.now }
-    ensures { to.new ≡ from.now }
+// Every entry becomes the value. The library's `fill` says so only where a type's clone is known to be the value.
+pub fn fill<T: Copy>(row: &mut [T], value: T)
+    ensures { row.new ≡ replicate (length row.old) value }
 {
-    let mut k = 0;
-    while k < from.len() {
-        let x = from[k];
-        to[k] = x;
-        k += 1;
+    for x in row.iter_mut() {
+        *x = value;
     }
 }
 
@@ -32,9 +27,5 @@ pub fn copy_soft(from: &[i32], to: &mut [i32])
 pub fn clear(row: &mut [u8])
     ensures { row.new ≡ replicate (length row.old) 0 }
 {
-    let mut at = 0;
-    while at < row.len() {
-        row[at] = 0;
-        at += 1;
-    }
+    fill(row, 0);
 }

@@ -34,8 +34,12 @@ module _ (xs : List ℕ) (s1 s2 : ℕ) where
   added-all = rw (take-length, drop-length) (append-nil (xors xs (terms (length xs) s1 s2)))
 
   -- it is a row of bits
-  pub bits-added : (m : ℕ) → Bits xs → Bits (added xs s1 s2 m)
+  bits-added : (m : ℕ) → Bits xs → Bits (added xs s1 s2 m)
   bits-added m b = bits-append (xors (take m xs) (terms m s1 s2)) (drop m xs) (bits-xors (take m xs) (terms m s1 s2)) (bits-drop m xs b)
+
+  -- and so is a part of it
+  pub part-bits : (m i k : ℕ) (zs : List ℕ) → zs ≡ added xs s1 s2 m → Bits xs → Bits (take k (drop i zs))
+  part-bits m i k zs e b = bits-take k (drop i zs) (bits-drop i zs (rw e (bits-added m b)))
 
   -- the part with the terms added has m entries
   length_front : (m : ℕ) → m ≤ length xs → length (xors (take m xs) (terms m s1 s2)) ≡ m
@@ -50,10 +54,6 @@ module _ (xs : List ℕ) (s1 s2 : ℕ) where
     -- there are k of them
     length_part : length (take k (drop m zs)) ≡ k
     length_part = length-take-le k (drop m zs) (rw length-drop (omega (arith, ap length e ∙ length-added m (omega arith))))
-
-    -- what `add_terms` asks of them
-    pub part-asks : k ≤ 31 → Bits xs → (length (take k (drop m zs)) ≤ 31) × Bits (take k (drop m zs))
-    part-asks l b = (rw length_part l, bits-take k (drop m zs) (bits-drop m zs (rw e (bits-added m b))))
 
     -- their terms added: the registers are m terms on
     pub part-added : (ys : List ℕ) {x1 x2 : ℕ} → x1 ≡ after step1 m s1 → x2 ≡ after step2 m s2

@@ -2,4 +2,3 @@
 pub mod Ahead
 pub mod Nibbles
 pub mod Added
-pub mod Negated

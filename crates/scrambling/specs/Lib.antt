@@ -1,2 +1,2 @@
--- What the contracts cite besides the definitions of nr.
+-- What a table of the code is, besides the definitions of nr.
 pub mod Nibbles

@@ -1,41 +1,42 @@
 -- The search, candidate by candidate: what its two loops keep, and what each way out of a turn shows.
 -- Assumes nothing.
-use Prim.Native.Nat.{ℕ, ◌+◌, ◌-◌, ◌*◌, ◌/◌, ◌≤◌, ◌<◌}
+use Prim.Native.Nat.{ℕ, ◌+◌, ◌*◌, ◌/◌, ◌≤◌, ◌<◌}
 use native.Mathlib.Decide.{dec_le}
 use native.Mathlib.Nat.{lt_of_not-le}
 use native.Mathlib.Omega.{arith}
-use mathlib.Core.Path.{◌≡◌, refl, sym, subst, ap, ap₂, ◌∙◌}
+use mathlib.Core.Path.{◌≡◌, sym, subst, ap, ap₂, ◌∙◌}
 use mathlib.Core.Logic.{◌≢◌}
-use mathlib.Core.Bool.{Bool, true, false, cond}
+use mathlib.Core.Bool.{Bool, true, false}
 use mathlib.Core.List.{List, ◌++◌}
 use lib.IntN.{ℤ, pos, negsuc, nat_abs}
-use lib.ListN.{length, get_or, take, drop, replicate, length-replicate, take-append-drop}
-use lib.Seq.{take-take}
+use lib.ListN.{length, get_or, take, drop, take-append-drop}
 use mir.Syntax.{w32}
 use mir.Val.{SFits, to_z, of_z}
 use mir.ValLaws.{to_z-of_z}
-use borrow.Author.Tests.{ltb-true, ne_eqb}
-use Rattle.nr.specs.declared.Answer.{Answer}
+use borrow.Author.Tests.{ltb-true}
+use Rattle.std.specs.Prelude.{Result, Ok, Err}
 use Rattle.nr.specs.declared.Numbers.{Numbers}
+use Rattle.nr.specs.declared.Refusal.{Refusal}
 use Rattle.nr.specs.declared.Candidate.{Candidate}
 use Rattle.nr.specs.Rows.{Within}
-use Rattle.nr.specs.Answer.{refusal, number, given, Reading, reading}
-use Rattle.nr.specs.Scrambling.{terms, gold, c_init}
+use Rattle.nr.specs.Answer.{refusal, number, given, Reading}
+use Rattle.nr.specs.Scrambling.{c_init}
 use Rattle.nr.specs.Decoding.{bad_soft}
 use Rattle.nr.specs.Searching.{candidate_at, stretch_of, numbers_of, tried, decodes, Found, found, unfound, accepted, search_refusal, searching, start_of}
 use Rattle.nr.proofs.Tests.{fails}
 use Rattle.nr.proofs.Construction.{accepted as sized}
-use Rattle.nr.proofs.Refusals.{longest, accepted-exactly, first-none}
-use Rattle.nr.proofs.Scrambling.{take-gold}
+use Rattle.nr.proofs.Refusals.{longest, first-none}
 use Rattle.nr.proofs.Promise1.{decoding-untouched}
-use Rattle.nr.proofs.Searching.{fits-exactly, stretch-length, sixteen-exactly, decodes-exactly, bad-undecoded, unrefused, first-named, none_named}
-use Rattle.checks.specs.Checks.{beyond}
+use Rattle.nr.proofs.Searching.{refused-is, fits-exactly, stretch-length, sixteen-exactly, decodes-exactly, bad-undecoded, unrefused, first-named, none_named}
+use Rattle.checks.specs.Checks.{beyond, Says}
+use Rattle.checks.proofs.Refusing.{refused, done, passed_on}
+use Rattle.dci.specs.Judged.{counted, told}
 use Rattle.dci.proofs.Ranges.{soft-beyond}
 use Rattle.dci.proofs.Outcomes.{soft-within}
 use Rattle.candidates.specs.Tryable.{tryable}
 use Rattle.candidates.proofs.Checked.{Able, able, unable}
-use Rattle.construction.specs.declared.Layout.{Layout as Made}
-use Rattle.search.specs.Tries.{Keeps, Ready, Tries, attempted}
+use Rattle.search.specs.declared.kept.Terms.{Terms}
+use Rattle.search.specs.Tries.{Tries, attempted, named}
 
 -- ---- the loop over the values: `row` is the candidate's, and none before k is bad
 
@@ -43,13 +44,6 @@ pub record Passed (region : List ℤ) (c : Candidate) (row : List ℤ) (k : ℕ)
   pub is : row ≡ stretch_of region c
   pub within : k ≤ length row
   pub so_far : (j : ℕ) → j < k → bad_soft (get_or row j (pos 0)) ≡ false
-
--- the row as the code takes it
-pub none_passed : (region : List ℤ) (c : Candidate)
-    → Passed region c (take (108 * c.first + 108 * c.level - 108 * c.first) (drop (108 * c.first) region)) 0
-none_passed region c =
-    let e : 108 * c.first + 108 * c.level - 108 * c.first ≡ 108 * c.level = omega arith in
-    record { is = ap (λ (n : ℕ). take n (drop (108 * c.first) region)) e; within = omega arith; so_far = λ j l. absurd (omega arith) }
 
 -- a turn: the value, which stands by its bits, was judged
 module _ {region : List ℤ} {c : Candidate} {row : List ℤ} {k : ℕ} (p : Passed region c row k) (l : k < length row)
@@ -80,22 +74,19 @@ all-passed {row = row} p l =
 
 -- ---- the loop over the candidates: the output is as it was, and none before candidate i decodes
 
-pub record Kept (n : ℕ) (region : List ℤ) (list out₀ out : List ℕ) (i : ℕ) : Type 0 where
+pub record Passed_over (n : ℕ) (region : List ℤ) (list out₀ out : List ℕ) (i : ℕ) : Type 0 where
   pub within : i ≤ length list / 5
   pub same : out ≡ out₀
   pub none : (j : ℕ) → j < i → decodes n region out₀ (candidate_at list j) ≡ false
 
-pub none_tried : (n : ℕ) (region : List ℤ) (list out : List ℕ) → Kept n region list out out 0
-none_tried n region list out = record { within = omega arith; same = refl; none = λ j l. absurd (omega arith) }
-
 -- a turn, with candidate i
 pub record Turn (n : ℕ) (region : List ℤ) (list out₀ out : List ℕ) (i : ℕ) (c : Candidate) : Type 0 where
-  pub kept : Kept n region list out₀ out i
+  pub kept : Passed_over n region list out₀ out i
   pub below : i < length list / 5
   pub is : c ≡ candidate_at list i
 
 module _ {n : ℕ} {region : List ℤ} {list out₀ out : List ℕ} {i : ℕ} {c : Candidate} (t : Turn n region list out₀ out i c) where
-  pub skip : (out' : List ℕ) → out' ≡ out₀ → decodes n region out₀ c ≡ false → Kept n region list out₀ out' (i + 1)
+  pub skip : (out' : List ℕ) → out' ≡ out₀ → decodes n region out₀ c ≡ false → Passed_over n region list out₀ out' (i + 1)
   skip out' e d = record {
     within = omega (arith, t.below);
     same = e;
@@ -107,13 +98,13 @@ module _ {n : ℕ} {region : List ℤ} {list out₀ out : List ℕ} {i : ℕ} {c
     ];
   }
 
-  pub skip-unable : tryable (length region / 108) c ≡ false → Kept n region list out₀ out (i + 1)
+  pub skip-unable : tryable (length region / 108) c ≡ false → Passed_over n region list out₀ out (i + 1)
   skip-unable e = skip out t.kept.same (unable n region out₀ c e)
 
   -- it was tried
   module _ (a : tryable (length region / 108) c ≡ true) {row : List ℤ} (row_is : row ≡ stretch_of region c) {s : Numbers} (s-is : s ≡ numbers_of n c)
-      (r : Answer) (noise : ℕ) (new : List ℕ) (says : reading (given r new) noise ≡ attempted s row out) where
-    said : reading (given r new) noise ≡ attempted (numbers_of n c) (stretch_of region c) out₀
+      (r : Result ℕ Refusal) (new : List ℕ) (says : told r new ≡ attempted s row out) where
+    said : told r new ≡ attempted (numbers_of n c) (stretch_of region c) out₀
     said = says ∙ ap (λ (u : Numbers). attempted u row out) s-is ∙ ap₂ (attempted (numbers_of n c)) row_is t.kept.same
 
     number_is : number r ≡ (tried n region out₀ c).number
@@ -124,8 +115,8 @@ module _ {n : ℕ} {region : List ℤ} {list out₀ out : List ℕ} {i : ℕ} {c
     unfolding given tried
     buffer-is = ap (λ (o : Reading). o.buffer) said
 
-    noise-is : noise ≡ (tried n region out₀ c).noise
-    unfolding tried
+    noise-is : counted r ≡ (tried n region out₀ c).noise
+    unfolding given tried
     noise-is = ap (λ (o : Reading). o.noise) said
 
     -- a number other than 0 puts the buffer back
@@ -137,56 +128,44 @@ module _ {n : ℕ} {region : List ℤ} {list out₀ out : List ℕ} {i : ℕ} {c
         ((decoding-untouched (numbers_of n c) (stretch_of region c) (take c.a out₀)).buffer (λ e. z (number_is ∙ e)))
         ∙ take-append-drop c.a out₀
 
-    pub skip-refused : number r ≢ 0 → Kept n region list out₀ new (i + 1)
+    pub skip-refused : number r ≢ 0 → Passed_over n region list out₀ new (i + 1)
     skip-refused z = skip new (put_back z) (fails _ (λ e. z (number_is ∙ ((decodes-exactly n region out₀ c).0 e).1.1)))
 
-    pub found_it : number r ≡ 0 → 0 ≡ search_refusal (length region) (length list) (length out₀)
+    pub found_it : (noise : ℕ) → r ≡ Ok noise → 0 ≡ search_refusal (length region) (length list) (length out₀)
         → found 0 i row new noise ≡ searching n region list out₀
-    unfolding accepted
-    found_it z s =
+    unfolding accepted counted
+    found_it noise q s =
+        let z : number r ≡ 0 = ap number q ∙ done noise in
         let u = unrefused n region list out₀ (sym s) in
         let g = able (length region / 108) c a in
         let d : decodes n region out₀ c ≡ true = (decodes-exactly n region out₀ c).1 (g.fits, ((sixteen-exactly c).0 g.sixteen, sym number_is ∙ z)) in
         ap₂ (λ (stretch : List ℤ) (buffer : List ℕ). found 0 i stretch buffer noise) row_is buffer-is
-        ∙ ap (found 0 i (stretch_of region c) ((tried n region out₀ c).buffer ++ drop c.a out₀)) noise-is
+        ∙ ap (found 0 i (stretch_of region c) ((tried n region out₀ c).buffer ++ drop c.a out₀)) (sym (ap counted q) ∙ noise-is)
         ∙ ap (λ (d : Candidate). found 0 i (stretch_of region d) ((tried n region out₀ d).buffer ++ drop d.a out₀) (tried n region out₀ d).noise) t.is
         ∙ sym (first-named n region list out₀ u.0 u.1
         (record { below = t.below; itself = subst (λ (d : Candidate). decodes n region out₀ d ≡ true) t.is d; before = t.kept.none }))
 
-pub found_none : {n : ℕ} {region : List ℤ} {list out₀ out : List ℕ} {i : ℕ} → Kept n region list out₀ out i → length list / 5 ≤ i
+pub found_none : {n : ℕ} {region : List ℤ} {list out₀ out : List ℕ} {i : ℕ} → Passed_over n region list out₀ out i → length list / 5 ≤ i
     → 0 ≡ search_refusal (length region) (length list) (length out₀) → unfound 8 out ≡ searching n region list out₀
 found_none {n = n} {region = region} {list = list} {out₀ = out₀} k l s =
     let u = unrefused n region list out₀ (sym s) in
     ap (unfound 8) k.same ∙ sym (none_named n region list out₀ u.0 u.1 (λ j h. k.none j (omega arith)))
 
--- ---- where the part starts
+-- the lengths are refused
+pub size-refused : (n : ℕ) (region : List ℤ) (list out : List ℕ) {Y : Type 0} (r : Refusal)
+    → Says {X = Y} (search_refusal (length region) (length list) (length out)) (Err r) → named (Err r) out ≡ searching n region list out
+unfolding named
+size-refused n region list out r y =
+    let s : Says {X = ℕ} (search_refusal (length region) (length list) (length out)) (Err r) = passed_on y in
+    refused-is n region list out (number {X = ℕ} (Err r)) (refused ℕ r) (sym s.number)
 
-pub no_start : (list : List ℕ) (f : Found) (i : ℕ) (out : List ℕ) → i ≢ 0 → unfound i out ≡ f → start_of list f * 4 ≡ 0
-unfolding start_of
-no_start list f i out n e =
-    ap (λ (g : Found). start_of list g * 4) (sym e)
-    ∙ ap (λ (t : Bool). cond t (108 * (candidate_at list 0).first) 0 * 4) (ne_eqb i 0 n)
+-- ---- where the part starts
 
 pub start-at : {n : ℕ} {region : List ℤ} {list out₀ out : List ℕ} {i : ℕ} {c : Candidate} → Turn n region list out₀ out i c
     → (f : Found) (part : List ℤ) (new : List ℕ) (noise : ℕ) → found 0 i part new noise ≡ f → 108 * c.first * 4 ≡ start_of list f * 4
 unfolding start_of
 start-at {list = list} t f part new noise e =
     ap (λ (d : Candidate). 108 * d.first * 4) t.is ∙ ap (λ (g : Found). start_of list g * 4) e
-
--- ---- what is kept between candidates: the sequence as far as it was made, and the code of the one before
-
-pub record Stock (sequence : List ℕ) (ready : ℕ) (code : Made) (before : Numbers) : Type 0 where
-  pub size : length sequence ≡ 1728
-  pub terms : Ready (c_init before) ready sequence
-  pub kept : Keeps before code
-
-pub no-stock : (code : Made) {before : Numbers} → before.a ≡ 0 → Stock (replicate 1728 0) 0 code before
-unfolding gold terms refusal
-no-stock code {before = b} e = record {
-  size = length-replicate {A = ℕ} 1728 0;
-  terms = record { within = omega arith; is = refl };
-  kept = record { is = λ r. absurd (omega (arith, ((accepted-exactly b.a b.e).0 r).low)) };
-}
 
 -- a candidate that can be tried lies within the region
 pub room : (region : List ℤ) (c : Candidate) → Able (length region / 108) c → 108 * c.first + 108 * c.level ≤ length region
@@ -202,24 +181,20 @@ row-size {region = region} {c = c} p a = ap length p.is ∙ stretch-length regio
 pub numbers-sizes : {cces n : ℕ} {c : Candidate} {s : Numbers} → Able cces c → s ≡ numbers_of n c → refusal s.a s.e ≡ 0
 numbers-sizes a s-is = ap (λ (u : Numbers). refusal u.a u.e) s-is ∙ a.sizes
 
-pub numbers_fit : {cces n : ℕ} {c : Candidate} {s : Numbers} → Able cces c → s ≡ numbers_of n c → s.e ≤ 1728
-numbers_fit {s = s} a s-is = longest s.e (sized s.a s.e (numbers-sizes a s-is)).length
-
--- the first terms of those that are ready
-fewer : {start e ready : ℕ} {row : List ℕ} → Ready start ready row → e ≤ ready → Ready start e row
-fewer {start = start} {e = e} {ready = ready} {row = row} r l = record {
-  within = omega (arith, r.within);
-  is = sym (take-take e ready row l) ∙ ap (take e) r.is ∙ take-gold start e ready l;
-}
+pub row_fits : {region : List ℤ} {c : Candidate} {row : List ℤ} {k : ℕ} → Passed region c row k → Able (length region / 108) c → length row ≤ 1728
+row_fits {c = c} p a = omega (arith, row-size p a, longest (108 * c.level) (sized c.a (108 * c.level) a.sizes).length)
 
 module _ {n : ℕ} {region : List ℤ} {list out₀ out : List ℕ} {i : ℕ} {c : Candidate} {row : List ℤ} {k : ℕ} (t : Turn n region list out₀ out i c)
     (a : Able (length region / 108) c) (p : Passed region c row k) {s : Numbers} (s-is : s ≡ numbers_of n c) where
-  pub tries : length row ≤ k → 0 ≡ search_refusal (length region) (length list) (length out₀) → {ready : ℕ} {sequence : List ℕ}
-      → (s.e ≤ ready) × Ready (c_init s) ready sequence → Tries s sequence row out
-  tries l u r = record {
-    sizes = numbers-sizes a s-is;
-    size = row-size p a ∙ ap (λ (u : Numbers). u.e) (sym s-is);
-    range = all-passed p l;
-    terms = fewer r.1 r.0;
-    output = ap length t.kept.same ∙ (unrefused n region list out₀ (sym u)).1;
-  }
+  pub tries : length row ≤ k → 0 ≡ search_refusal (length region) (length list) (length out₀) → (terms : Terms)
+      → terms.start.bits ≡ c_init s → length row ≤ terms.ready → Tries s terms row out
+  tries l u terms start ready =
+      let size : length row ≡ s.e = row-size p a ∙ ap (λ (u : Numbers). u.e) (sym s-is) in
+      record {
+        sizes = numbers-sizes a s-is;
+        size = size;
+        range = all-passed p l;
+        start = start;
+        ready = omega (arith, size, ready);
+        output = ap length t.kept.same ∙ (unrefused n region list out₀ (sym u)).1;
+      }

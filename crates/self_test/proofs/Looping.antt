@@ -12,9 +12,10 @@ use lib.IntN.{ℤ, pos, nat_abs}
 use lib.Signed.{lt_z_yes}
 use lib.ListN.{length, get_or, replicate, length-replicate, get_or-eq_default}
 use borrow.Author.Tests.{lt-ltb, le-ltb}
+use Rattle.std.specs.Prelude.{Result, Ok, Err, Some, None}
 use Rattle.nr.specs.declared.Numbers.{Numbers}
-use Rattle.nr.specs.declared.Answer.{Answer}
-use Rattle.nr.specs.declared.Answer.TheVariants.{Done, BadEntry}
+use Rattle.nr.specs.declared.Refusal.{Refusal}
+use Rattle.nr.specs.declared.Refusal.TheVariants.{BadEntry}
 use Rattle.nr.specs.Rows.{first, Bits, Within}
 use Rattle.nr.specs.Answer.{first_number, tests, number, Outcome, outcome, given, Reading, reading}
 use Rattle.nr.specs.SuccessiveDecoder.{negate_if, descramble}
@@ -23,26 +24,28 @@ use Rattle.nr.specs.Decoding.{decoding}
 use Rattle.nr.specs.Promise3.{Accepted, Payload, Noiseless}
 use Rattle.nr.specs.Loopback.{bad_strength, looped, Loops}
 use Rattle.nr.proofs.Chains.{none, ahead}
-use Rattle.nr.proofs.Refusals.{longest, before-first, length-is}
-use Rattle.nr.proofs.Construction.{accepted}
+use Rattle.nr.proofs.Refusals.{Passes, before-first}
 use Rattle.nr.proofs.Promise1.{coding-whole}
 use Rattle.nr.proofs.SoftRows.{nat_abs-negate_if, length-descramble, get_or-descramble}
 use Rattle.nr.proofs.Promise3.{promise3}
 use Rattle.nr.proofs.Loopback.{strength-range, whole, looped_is, looped-found}
-use Rattle.checks.specs.Checks.{size_refusal, Says}
+use Rattle.checks.specs.Checks.{size_refusal, Says, first_at}
+use Rattle.checks.proofs.Places.{first_at-some, first_at-none}
+use Rattle.checks.proofs.Refusing.{refused, done, passed_on}
+use Rattle.dci.specs.Judged.{counted, told}
 use Rattle.self_test.specs.Loops.{signed, found}
 use Rattle.dci.proofs.Outcomes.{five-refused, last-refused, last-decides, passes, payload-bits}
 
 -- ---- promise 3, for whatever meets the contracts of the two calls
 
-pub calls : (s : Numbers) (payload sent₀ sent : List ℕ) (r₁ : Answer) → Accepted s → Payload s payload → length sent₀ ≡ s.e
+pub calls : {X : Type 0} (s : Numbers) (payload sent₀ sent : List ℕ) (r₁ : Result X Refusal) → Accepted s → Payload s payload → length sent₀ ≡ s.e
     → given r₁ sent ≡ coding s payload sent₀
     → (soft : List ℤ) → Noiseless s sent soft
-    → (out new : List ℕ) (r₂ : Answer) (noise : ℕ) → length out ≡ s.a
-    → reading (given r₂ new) noise ≡ decoding s soft out
-    → (number r₁ ≡ 0) × (reading (given r₂ new) noise ≡ found payload)
+    → (out new : List ℕ) (r₂ : Result ℕ Refusal) → length out ≡ s.a
+    → told r₂ new ≡ decoding s soft out
+    → (number r₁ ≡ 0) × (told r₂ new ≡ found payload)
 unfolding given
-calls s payload sent₀ sent r₁ a p l q soft n out new r₂ noise l' q' = (
+calls s payload sent₀ sent r₁ a p l q soft n out new r₂ l' q' = (
   ap (λ (o : Outcome). o.number) q ∙ promise3.codes s payload sent₀ a p l,
   q' ∙ promise3.decodes s payload sent₀ a p l soft out (subst (λ (x : List ℕ). Noiseless s x soft) (ap (λ (o : Outcome). o.buffer) q) n) l',
 )
@@ -98,6 +101,10 @@ loop-found s payload strengths out l soft e q =
 abbrev quiet : Outcome → Reading
 quiet o = reading o 0
 
+quietly : (r : Refusal) (buffer : List ℕ) → told (Err r) buffer ≡ quiet (given {X = ℕ} (Err r) buffer)
+unfolding counted
+quietly r buffer = refl
+
 module _ (s : Numbers) (payload : List ℕ) (strengths : List ℤ) (out : List ℕ) where
   abbrev byte : ℕ
   byte = first bad_byte payload
@@ -130,79 +137,77 @@ module _ (s : Numbers) (payload : List ℕ) (strengths : List ℤ) (out : List �
   first-applies true n = refl
   first-applies false n = ahead 0 (pair-tests []) (q ∷ o ∷ bad ∷ []) n
 
-  module _ (r₁ : Answer) (y₁ : Says (size_refusal s.a s.e (length payload) s.a 0 0) r₁) where
-    pub first-refused : (number r₁ ≡ 0 → ⊥) → quiet (given r₁ out) ≡ looped s payload strengths out
-    first-refused n =
-        ap quiet (five-refused (pair-tests (p ∷ false ∷ [])) false place payload out refl (λ i. i) (λ i. refl) r₁ y₁ n)
-        ∙ sym (looped_is s payload strengths out ∙ ap (λ (i : ℕ). quiet (outcome i place payload out)) (first-applies p (λ e. n (y₁.number ∙ e))))
+  pub first-refused : {Y : Type 0} (r : Refusal) → Says {X = Y} (size_refusal s.a s.e (length payload) s.a 0 0) (Err r) → told (Err r) out ≡ looped s payload strengths out
+  first-refused r y =
+      let z : Says {X = ℕ} (first_number 1 (pair-tests (p ∷ false ∷ []))) (Err r) = passed_on y in
+      quietly r out
+      ∙ ap quiet (five-refused (pair-tests (p ∷ false ∷ [])) false place payload out refl (λ i. i) (λ i. refl) (Err r) z (refused ℕ r))
+      ∙ sym (looped_is s payload strengths out ∙ ap (λ (i : ℕ). quiet (outcome i place payload out)) (first-applies p (λ e. refused ℕ r (z.number ∙ e))))
 
-    module _ (e₁ : r₁ ≡ Done) (r₂ : Answer) (y₂ : Says (size_refusal s.a s.e (length strengths) s.e (length out) s.a) r₂) where
-      -- the payload's length is right: the second check's five tests and that of the entries are left
-      abbrev sizes : List Bool
-      sizes = pair-tests (q ∷ o ∷ [])
+  module _ {Y : Type 0} (v₁ : Y) (y₁ : Says (size_refusal s.a s.e (length payload) s.a 0 0) (Ok v₁)) where
+    -- the payload's length is right: the second check's five tests and that of the entries are left
+    abbrev sizes : List Bool
+    sizes = pair-tests (q ∷ o ∷ [])
 
-      rest : whole s payload strengths out ≡ first_number 1 (sizes ++ (bad ∷ []))
-      unfolding number
-      rest =
-          let n = none 0 (pair-tests (p ∷ false ∷ [])) (sym y₁.number ∙ ap number e₁) in
-          ap (λ (t : Bool). first_number 1 (pair-tests ((t || q) ∷ o ∷ bad ∷ []))) n.1.1.1.0
+    rest : whole s payload strengths out ≡ first_number 1 (sizes ++ (bad ∷ []))
+    rest =
+        let n = none 0 (pair-tests (p ∷ false ∷ [])) (sym y₁.number ∙ done v₁) in
+        ap (λ (t : Bool). first_number 1 (pair-tests ((t || q) ∷ o ∷ bad ∷ []))) n.1.1.1.0
 
-      looped-rest : quiet (outcome (first_number 1 (sizes ++ (bad ∷ []))) place payload out) ≡ looped s payload strengths out
-      looped-rest = sym (looped_is s payload strengths out ∙ ap (λ (i : ℕ). quiet (outcome i place payload out)) rest)
+    looped-rest : quiet (outcome (first_number 1 (sizes ++ (bad ∷ []))) place payload out) ≡ looped s payload strengths out
+    looped-rest = sym (looped_is s payload strengths out ∙ ap (λ (i : ℕ). quiet (outcome i place payload out)) rest)
 
-      pub second-refused : (number r₂ ≡ 0 → ⊥) → quiet (given r₂ out) ≡ looped s payload strengths out
-      second-refused n = ap quiet (five-refused sizes bad place payload out refl (λ i. i) (λ i. refl) r₂ y₂ n) ∙ looped-rest
+    pub second-refused : {Z : Type 0} (r : Refusal) → Says {X = Z} (size_refusal s.a s.e (length strengths) s.e (length out) s.a) (Err r)
+        → told (Err r) out ≡ looped s payload strengths out
+    second-refused r y =
+        quietly r out
+        ∙ ap quiet (five-refused sizes bad place payload out refl (λ i. i) (λ i. refl) (Err r) (passed_on y) (refused ℕ r))
+        ∙ looped-rest
 
-      module _ (e₂ : r₂ ≡ Done) where
-        none₂ : first_number 1 sizes ≡ 0
-        unfolding number
-        none₂ = sym y₂.number ∙ ap number e₂
+    module _ {Z : Type 0} (v₂ : Z) (y₂ : Says (size_refusal s.a s.e (length strengths) s.e (length out) s.a) (Ok v₂)) where
+      none₂ : first_number 1 sizes ≡ 0
+      none₂ = sym y₂.number ∙ done v₂
 
-        -- 6, at a place
-        six : (x y : Bool) → ltb byte (length payload) ≡ x → ltb strength (length strengths) ≡ y → x || y ≡ true → (k : ℕ) → k ≡ cond x byte (s.a + strength)
-            → quiet (given (BadEntry k) out) ≡ looped s payload strengths out
-        six x y p q t k m =
-            ap quiet (last-refused sizes bad place payload out refl (λ i. i) (λ i. refl)
-            (last-decides sizes bad place payload out refl none₂ ∙ ap (λ (u : Bool). cond u 6 0) (ap₂ ◌||◌ p q ∙ t)) k
-            (m ∙ ap (λ (u : Bool). cond u byte (s.a + strength)) (sym p)))
-            ∙ looped-rest
+      -- 6, at a place
+      six : (x y : Bool) → ltb byte (length payload) ≡ x → ltb strength (length strengths) ≡ y → x || y ≡ true → (k : ℕ) → k ≡ cond x byte (s.a + strength)
+          → told (Err (BadEntry k)) out ≡ looped s payload strengths out
+      six x y p q t k m =
+          quietly (BadEntry k) out
+          ∙ ap quiet (last-refused sizes bad place payload out refl (λ i. i) (λ i. refl) ℕ
+          (last-decides sizes bad place payload out refl none₂ ∙ ap (λ (u : Bool). cond u 6 0) (ap₂ ◌||◌ p q ∙ t)) k
+          (m ∙ ap (λ (u : Bool). cond u byte (s.a + strength)) (sym p)))
+          ∙ looped-rest
 
-        pub byte-refused : (k : ℕ) → k ≡ byte → k < length payload → quiet (given (BadEntry k) out) ≡ looped s payload strengths out
-        byte-refused k m l =
-            let h : byte < length payload = omega arith in
-            six true (ltb strength (length strengths)) (lt-ltb byte (length payload) h) refl refl k m
+      pub byte-refused : (k : ℕ) → first_at bad_byte payload ≡ Some k → told (Err (BadEntry k)) out ≡ looped s payload strengths out
+      byte-refused k e =
+          let p : (k ≡ byte) × (k < length payload) = first_at-some bad_byte payload k e in
+          let h : byte < length payload = omega (arith, p.0, p.1) in
+          six true (ltb strength (length strengths)) (lt-ltb byte (length payload) h) refl refl k p.0
 
-        module _ (l₁ : length payload ≤ byte) where
-          payload-size : length payload ≡ s.a
-          payload-size = (passes bad_byte s.a s.e payload s.a [] 0 r₁ y₁ e₁ l₁).input-length
+      module _ (l₁ : first_at bad_byte payload ≡ None) where
+        abbrev clean : length payload ≤ byte
+        clean = first_at-none bad_byte payload l₁
 
-          pair : Accepted s
-          pair = (passes bad_byte s.a s.e payload s.a [] 0 r₁ y₁ e₁ l₁).pair
+        abbrev p₁ : Passes s.a s.e bad_byte payload s.a [] 0
+        p₁ = passes bad_byte s.a s.e payload s.a [] 0 v₁ y₁ l₁
 
-          strengths-size : length strengths ≡ s.e
-          strengths-size = (length-is (length strengths) s.e).0 (none 0 sizes none₂).1.1.1.0
+        pub strength-refused : (k : ℕ) → first_at bad_strength strengths ≡ Some k → told (Err (BadEntry (length payload + k))) out ≡ looped s payload strengths out
+        strength-refused k e =
+            let p : (k ≡ strength) × (k < length strengths) = first_at-some bad_strength strengths k e in
+            let h : strength < length strengths = omega (arith, p.0, p.1) in
+            six false true (le-ltb byte (length payload) clean) (lt-ltb strength (length strengths) h) refl (length payload + k) (ap₂ ◌+◌ p₁.input-length p.0)
 
-          -- the sum of lengths that the place is
-          pub place-fits : (k : ℕ) → k < length strengths → length payload + k < 2000
-          place-fits k l = omega (arith, payload-size, strengths-size, (accepted s.a s.e pair).high, longest s.e (accepted s.a s.e pair).length)
+        module _ (l₂ : first_at bad_strength strengths ≡ None) where
+          pub loops : Loops s payload strengths out
+          loops =
+              let p₂ = passes bad_strength s.a s.e strengths s.e out s.a v₂ y₂ l₂ in
+              record {
+                numbers = p₁.pair;
+                input = record { size = p₁.input-length; bits = λ k h. payload-bits payload clean k };
+                size = p₂.input-length;
+                strong = λ k h. before-first bad_strength strengths (pos 0) k (omega (arith, p₂.input-length, first_at-none bad_strength strengths l₂));
+                output = p₂.output-length;
+              }
 
-          pub strength-refused : (k : ℕ) → k ≡ strength → k < length strengths → quiet (given (BadEntry (length payload + k)) out) ≡ looped s payload strengths out
-          strength-refused k m l =
-              let h : strength < length strengths = omega arith in
-              six false true (le-ltb byte (length payload) l₁) (lt-ltb strength (length strengths) h) refl (length payload + k) (ap₂ ◌+◌ payload-size m)
-
-          module _ (l₂ : length strengths ≤ strength) where
-            pub loops : Loops s payload strengths out
-            loops =
-                let p₁ = passes bad_byte s.a s.e payload s.a [] 0 r₁ y₁ e₁ l₁ in
-                let p₂ = passes bad_strength s.a s.e strengths s.e out s.a r₂ y₂ e₂ l₂ in
-                record {
-                  numbers = p₁.pair;
-                  input = record { size = p₁.input-length; bits = λ k h. payload-bits payload l₁ k };
-                  size = p₂.input-length;
-                  strong = λ k h. before-first bad_strength strengths (pos 0) k (omega (arith, p₂.input-length));
-                  output = p₂.output-length;
-                }
-
-            pub loop-done : {got : Reading} → got ≡ found payload → got ≡ looped s payload strengths out
-            loop-done q = q ∙ sym (looped-found s payload strengths out loops)
+          pub loop-done : {got : Reading} → got ≡ found payload → got ≡ looped s payload strengths out
+          loop-done q = q ∙ sym (looped-found s payload strengths out loops)

@@ -1,17 +1,16 @@
-// A code word sent: from a payload to E scrambled bits, for a code that is given by n, the kind of rate matching and its
-// information positions.
+// A code word sent: from a payload to E scrambled bits, for a code and a start of the scrambler.
 #![tactic(auto)]
 
-ghost use Rattle.std.specs.Prelude.{◌≡◌, ◌+◌, ◌≤◌, ◌<◌, ◌^◌, length, replicate};
+ghost use Rattle.std.specs.Prelude.{◌≡◌, ◌+◌, ◌≤◌, ◌^◌, length, replicate};
 ghost use Rattle.nr.specs.Rows.{Bits};
 ghost use Rattle.nr.specs.Parity.{attach, mask_rnti};
 ghost use Rattle.nr.specs.Interleaver.{interleave};
-ghost use Rattle.nr.specs.Transform.{transform};
-ghost use Rattle.nr.specs.Coding.{placed, coded};
+ghost use Rattle.nr.specs.Coding.{code_word, coded};
+ghost use Rattle.nr.specs.Layouts.{layout_of};
 ghost use Rattle.nr.specs.RateMatching.{Fits};
-ghost use Rattle.polar.specs.Codes.{Positions, code};
 
-use nr::RateMatching;
+use nr::Code;
+use scrambling::Seed;
 
 // The bits for the information positions: the payload with its parity, the RNTI added, interleaved.
 fn information_bits(payload: &[u8], rnti: u16, bits: &mut [u8])
@@ -24,36 +23,27 @@ fn information_bits(payload: &[u8], rnti: u16, bits: &mut [u8])
     interleaver::interleave(&row[..k], bits);
 }
 
-// The code word of a payload, in a row of N = 2^n that is 0.
-fn code_word(n: usize, positions: &[u16], rnti: u16, payload: &[u8], d: &mut [u8])
-    requires positions_len { (length positions.now ≡ length payload.now + 24) × Positions (2 ^ n) positions.now × Bits payload.now }
-    requires d_value { d.old ≡ replicate (2 ^ n) 0 }
-    ensures { d.new ≡ transform n (placed (2 ^ n) positions.now (interleave (mask_rnti rnti (attach payload.now)))) }
+// The code word of a payload, in a row of N that is 0.
+fn code_word(code: &Code, rnti: u16, payload: &[u8], d: &mut [u8])
+    requires payload { (length payload.now + 24 ≡ code.now.k) × Bits payload.now }
+    requires zero { d.old ≡ replicate (2 ^ code.now.length.n) 0 }
+    ensures { d.new ≡ code_word (layout_of code.now) rnti payload.now }
 {
-    let k = positions.len();
     let mut bits = [0u8; 164];
-    information_bits(payload, rnti, &mut bits[..k]);
-    polar::place(&bits[..k], positions, d);
-    polar::transform(n, d);
+    information_bits(payload, rnti, &mut bits[..code.k]);
+    polar::place(&bits[..code.k], code.information(), d);
+    polar::transform(code.length.n, d);
 }
 
 // The scrambled bits of a payload, as many as the output holds.
-pub fn send(
-    n: usize,
-    kind: RateMatching,
-    positions: &[u16],
-    rnti: u16,
-    start: u32,
-    payload: &[u8],
-    out: &mut [u8],
-)
-    requires le_n { (5 ≤ n) × (n ≤ 9) × Fits kind (2 ^ n) (length out.old) × (start < 2 ^ 31) }
-    requires positions_len { (length positions.now ≡ length payload.now + 24) × Positions (2 ^ n) positions.now × Bits payload.now }
-    ensures { out.new ≡ coded (code n kind positions.now) (length out.old) rnti start payload.now }
+pub fn send(code: &Code, rnti: u16, start: Seed, payload: &[u8], out: &mut [u8])
+    requires payload { (length payload.now + 24 ≡ code.now.k) × Bits payload.now }
+    requires fits { Fits code.now.kind (2 ^ code.now.length.n) (length out.old) }
+    ensures { out.new ≡ coded (layout_of code.now) (length out.old) rnti start.bits payload.now }
 {
-    let len = 1 << n;
+    let len = code.length.bits();
     let mut d = [0u8; 512];
-    code_word(n, positions, rnti, payload, &mut d[..len]);
-    rate_matching::select(kind, n, &d[..len], out);
+    code_word(code, rnti, payload, &mut d[..len]);
+    rate_matching::select(code.kind, code.length, &d[..len], out);
     scrambling::scramble(start, out);
 }

@@ -2,76 +2,99 @@
 -- Assumes nothing.
 use Prim.Native.Nat.{ℕ, ◌+◌, ◌*◌, ◌/◌, ◌%◌, ◌^◌, ◌≤◌, ◌<◌}
 use native.Mathlib.Omega.{arith}
-use mathlib.Core.Path.{◌≡◌, refl, ap, ◌∙◌}
+use mathlib.Core.Path.{◌≡◌, refl, sym, ap, ◌∙◌}
+use mathlib.Core.Logic.{◌≢◌, ◌⊎◌, inl, inr}
 use mathlib.Core.List.{List}
 use lib.IntN.{ℤ}
+use Rattle.std.specs.Prelude.{Result, Ok, Err}
 use Rattle.nr.specs.declared.Numbers.{Numbers}
-use Rattle.nr.specs.declared.Answer.{Answer}
-use Rattle.nr.specs.declared.Answer.TheVariants.{Done, PayloadSize, CodedLength, TooManyBits, InputLength, OutputLength, BadEntry, ParityMismatch}
+use Rattle.nr.specs.declared.Refusal.{Refusal}
+use Rattle.nr.specs.declared.Refusal.TheVariants.{PayloadSize, CodedLength, TooManyBits, InputLength, OutputLength, BadEntry, ParityMismatch, NoCandidate}
 use Rattle.nr.specs.Answer.{number, place_of, Outcome, given, Reading, reading}
 use Rattle.nr.specs.Decoding.{decoding}
 use Rattle.nr.specs.Loopback.{looped}
-use Rattle.nr.specs.Searching.{Found, found, searching}
+use Rattle.nr.specs.Searching.{Found, found, unfound, searching}
 use Rattle.nr.proofs.Promise1.{decoding-seven, decoding-place}
 use Rattle.nr.proofs.Recoding.{decoding-noise-small}
 use Rattle.nr.proofs.Loopback.{looped-six, looped-place, looped-quiet}
-use Rattle.nr.proofs.Searching.{Small, searching-small}
+use Rattle.nr.proofs.Searching.{Small, searching-small, searching-numbered}
+use Rattle.dci.specs.Judged.{counted, told}
 use Rattle.speltfeather.specs.Packed.{numbers, Returns, named}
 
--- the number in bits 0 to 7, the place from bit 8 on
-abbrev pub packed : Answer → ℕ
-packed r = number r + 2 ^ 8 * place_of r
+-- the number of a refusal in bits 0 to 7, its place from bit 8 on
+abbrev pub packed : Refusal → ℕ
+packed r = number {X = ℕ} (Err r) + 2 ^ 8 * place_of {X = ℕ} (Err r)
 
-pub number-seven : (r : Answer) → number r ≤ 7
-unfolding number
-number-seven Done = omega arith
-number-seven PayloadSize = omega arith
-number-seven CodedLength = omega arith
-number-seven TooManyBits = omega arith
-number-seven InputLength = omega arith
-number-seven OutputLength = omega arith
-number-seven (BadEntry k) = omega arith
-number-seven ParityMismatch = omega arith
+-- a refusal says the same, whatever the call gives when it is done
+alike : (X : Type 0) (r : Refusal) (buffer : List ℕ) → given {X = X} (Err r) buffer ≡ given {X = ℕ} (Err r) buffer
+unfolding given number place_of
+alike X PayloadSize buffer = refl
+alike X CodedLength buffer = refl
+alike X TooManyBits buffer = refl
+alike X InputLength buffer = refl
+alike X OutputLength buffer = refl
+alike X (BadEntry k) buffer = refl
+alike X ParityMismatch buffer = refl
+alike X NoCandidate buffer = refl
+
+-- only 6 has a place
+placeless : (r : Refusal) → number {X = ℕ} (Err r) ≢ 6 → place_of {X = ℕ} (Err r) ≡ 0
+unfolding number place_of
+placeless PayloadSize n = refl
+placeless CodedLength n = refl
+placeless TooManyBits n = refl
+placeless InputLength n = refl
+placeless OutputLength n = refl
+placeless (BadEntry k) n = absurd (n refl)
+placeless ParityMismatch n = refl
+placeless NoCandidate n = refl
 
 -- ---- a call that counts nothing
 
-module _ (o : Outcome) (r : Answer) (buffer : List ℕ) (e : given r buffer ≡ o) where
-  pub returned : (x : ℕ) → x ≡ packed r → Returns (reading o 0) x buffer
+pub done-returned : {X : Type 0} (x : X) {o : Outcome} {buffer : List ℕ} → given (Ok x) buffer ≡ o → Returns (reading o 0) 0 buffer
+unfolding given number place_of
+done-returned x e = record {
+  answer = omega (arith, ap (λ (o : Outcome). o.number) e, ap (λ (o : Outcome). o.place) e);
+  output = ap (λ (o : Outcome). o.buffer) e;
+}
+
+module _ (X : Type 0) (r : Refusal) (buffer : List ℕ) {o : Outcome} (e : given {X = X} (Err r) buffer ≡ o) where
+  refused-is : given {X = ℕ} (Err r) buffer ≡ o
+  refused-is = sym (alike X r buffer) ∙ e
+
+  pub refused-returned : (x : ℕ) → x ≡ packed r → Returns (reading o 0) x buffer
   unfolding given
-  returned x p = record {
-    answer = omega (arith, p ∙ ap (λ (o : Outcome). o.number + 2 ^ 8 * o.place) e);
-    output = ap (λ (o : Outcome). o.buffer) e;
+  refused-returned x p = record {
+    answer = omega (arith, p ∙ ap (λ (o : Outcome). o.number + 2 ^ 8 * o.place) refused-is);
+    output = ap (λ (o : Outcome). o.buffer) refused-is;
   }
 
-  carried : place_of r ≡ o.place
-  unfolding given
-  carried = ap (λ (o : Outcome). o.place) e
-
   -- the place that a call answers with is small
-  pub small : o.place < 4096 → place_of r < 2 ^ 16
-  small l = omega (arith, carried)
+  pub refused-small : o.place < 4096 → place_of {X = ℕ} (Err r) < 2 ^ 16
+  unfolding given
+  refused-small l = omega (arith, ap (λ (o : Outcome). o.place) refused-is)
 
 -- ---- one that decodes
 
-module _ (o : Reading) (r : Answer) (noise : ℕ) (buffer : List ℕ) (e : reading (given r buffer) noise ≡ o) where
-  pub counted-returned : (x : ℕ) → x ≡ packed r + 2 ^ 24 * noise → Returns o x buffer
+module _ (r : Result ℕ Refusal) (buffer : List ℕ) {o : Reading} (e : told r buffer ≡ o) where
+  pub counted-returned : (x : ℕ) → x ≡ number r + 2 ^ 8 * place_of r + 2 ^ 24 * counted r → Returns o x buffer
   unfolding given
   counted-returned x p = record {
     answer = p ∙ ap (λ (o : Reading). o.number + 2 ^ 8 * o.place + 2 ^ 24 * o.noise) e;
     output = ap (λ (o : Reading). o.buffer) e;
   }
 
-  -- the place and the count are small
-  pub counted-small : o.place < 4096 → o.noise ≤ 1728 → (place_of r < 2 ^ 16) × (noise < 2 ^ 16)
+  -- the place is small
+  pub counted-small : o.place < 4096 → place_of r < 2 ^ 16
   unfolding given
-  counted-small l m = (omega (arith, ap (λ (o : Reading). o.place) e), omega (arith, ap (λ (o : Reading). o.noise) e))
+  counted-small l = omega (arith, ap (λ (o : Reading). o.place) e)
 
 -- ---- a search
 
 module _ {number candidate noise : ℕ} {part : List ℤ} {buffer : List ℕ} {f : Found} (e : found number candidate part buffer noise ≡ f) where
-  pub found-returned : Returns (named f) (number + 2 ^ 8 * candidate + 2 ^ 24 * noise) buffer
-  found-returned = record {
-    answer = ap (λ (f : Found). f.number + 2 ^ 8 * f.candidate + 2 ^ 24 * f.noise) e;
+  pub found-returned : (x : ℕ) → x ≡ number + 2 ^ 8 * candidate + 2 ^ 24 * noise → Returns (named f) x buffer
+  found-returned x p = record {
+    answer = p ∙ ap (λ (f : Found). f.number + 2 ^ 8 * f.candidate + 2 ^ 24 * f.noise) e;
     output = ap (λ (f : Found). f.buffer) e;
   }
 
@@ -80,6 +103,19 @@ module _ {number candidate noise : ℕ} {part : List ℤ} {buffer : List ℕ} {f
     omega (arith, s.number, ap (λ (f : Found). f.number) e),
     (omega (arith, s.candidate, ap (λ (f : Found). f.candidate) e), omega (arith, s.noise, ap (λ (f : Found). f.noise) e)),
   )
+
+-- one that is refused gives 4, 5 or 8, so that no place stands where the candidate does
+pub found-placeless : (n : ℕ) (region : List ℤ) (list out : List ℕ) (r : Refusal) {buffer : List ℕ}
+    → unfound (number {X = ℕ} (Err r)) buffer ≡ searching n region list out → place_of {X = ℕ} (Err r) ≡ 0
+found-placeless n region list out r e =
+    let w = (searching-numbered n region list out).no_other in
+    placeless r (λ (six : number {X = ℕ} (Err r) ≡ 6). six-never (sym (ap (λ (f : Found). f.number) e) ∙ six) w)
+  where
+    six-never : {i : ℕ} → i ≡ 6 → (i ≡ 0) ⊎ ((i ≡ 4) ⊎ ((i ≡ 5) ⊎ (i ≡ 8))) → ⊥
+    six-never six (inl z) = omega arith
+    six-never six (inr (inl z)) = omega arith
+    six-never six (inr (inr (inl z))) = omega arith
+    six-never six (inr (inr (inr z))) = omega arith
 
 -- ---- which number of a call is which, in the order in which C passes them
 

@@ -1,42 +1,46 @@
 // The C interface (include/speltfeather.h).
 #![tactic(auto)]
 
-ghost use Rattle.std.specs.Prelude.{◌≡◌, ◌+◌, ◌*◌, ◌<◌, ◌^◌};
+ghost use Rattle.std.specs.Prelude.{ℕ, ◌≡◌, ◌+◌, ◌*◌, ◌<◌, ◌^◌, Err};
 ghost use Rattle.nr.specs.Answer.{number, place_of, reading};
 ghost use Rattle.nr.specs.Coding.{coding};
 ghost use Rattle.nr.specs.Decoding.{decoding};
 ghost use Rattle.nr.specs.Loopback.{looped};
 ghost use Rattle.nr.specs.Describing.{describing};
 ghost use Rattle.nr.specs.Searching.{searching};
+ghost use Rattle.dci.specs.Judged.{counted};
 ghost use Rattle.speltfeather.specs.Packed.{numbers, Returns, named};
 
-use dci::Decoded;
-use nr::{Answer, Numbers};
+use nr::{Numbers, Refusal};
 
-// An answer as one number: its own in bits 0 to 7, and the place that it carries from bit 8 on.
-fn pack(answer: Answer) -> u64
-    requires { place_of answer < 2 ^ 16 }
-    ensures { result ≡ number answer + 2 ^ 8 * place_of answer }
+// A refusal as one number: its own in bits 0 to 7, and the place that it carries from bit 8 on.
+#[tactic(auto, unfolding(nr::specs::Answer::number, nr::specs::Answer::place_of))]
+fn pack(refusal: Refusal) -> u64
+    requires { place_of {X = ℕ} (Err refusal) < 2 ^ 16 }
+    ensures { result ≡ number {X = ℕ} (Err refusal) + 2 ^ 8 * place_of {X = ℕ} (Err refusal) }
 {
-    match answer {
-        Answer::Done => 0,
-        Answer::PayloadSize => 1,
-        Answer::CodedLength => 2,
-        Answer::TooManyBits => 3,
-        Answer::InputLength => 4,
-        Answer::OutputLength => 5,
-        Answer::BadEntry(place) => 6 + 256 * (place as u64),
-        Answer::ParityMismatch => 7,
+    match refusal {
+        Refusal::PayloadSize => 1,
+        Refusal::CodedLength => 2,
+        Refusal::TooManyBits => 3,
+        Refusal::InputLength => 4,
+        Refusal::OutputLength => 5,
+        Refusal::BadEntry(place) => 6 + 256 * (place as u64),
+        Refusal::ParityMismatch => 7,
+        Refusal::NoCandidate => 8,
     }
 }
 
-// The same with the noise count from bit 24 on: answer and count are so small that none of the three reaches the next.
-fn pack_counted(decoded: Decoded) -> u64
-    requires { (place_of decoded.answer < 2 ^ 16) × (decoded.noise < 2 ^ 16) }
-    ensures { result ≡ number decoded.answer + 2 ^ 8 * place_of decoded.answer + 2 ^ 24 * decoded.noise }
+// An answer that counts: the noise count stands from bit 24 on, and a refusal has none.
+#[tactic(auto, unfolding(nr::specs::Answer::number, nr::specs::Answer::place_of, dci::specs::Judged::counted))]
+fn pack_counted(answer: Result<u32, Refusal>) -> u64
+    requires { place_of answer < 2 ^ 16 }
+    ensures { result ≡ number answer + 2 ^ 8 * place_of answer + 2 ^ 24 * counted answer }
 {
-    let answer = decoded.answer;
-    pack(answer) + 16777216 * (decoded.noise as u64)
+    match answer {
+        Ok(noise) => 16777216 * u64::from(noise),
+        Err(refusal) => pack(refusal),
+    }
 }
 
 // The numbers of a call, which C passes one by one.
@@ -65,8 +69,10 @@ pub extern "C" fn spelt_encode(
 ) -> u64
     ensures { Returns (reading (coding (numbers a e rnti n_id n_rnti) payload.now out.old) 0) result out.new }
 {
-    let encoded = dci::encode(as_numbers(a, e, rnti, n_id, n_rnti), payload, out);
-    pack(encoded)
+    match dci::encode(as_numbers(a, e, rnti, n_id, n_rnti), payload, out) {
+        Ok(()) => 0,
+        Err(refusal) => pack(refusal),
+    }
 }
 
 // Decodes soft values: `dci::decode`.
@@ -114,8 +120,10 @@ pub extern "C" fn spelt_loopback(
 pub extern "C" fn spelt_describe(a: u64, e: u64, out: &mut [u8]) -> u64
     ensures { Returns (reading (describing a e out.old) 0) result out.new }
 {
-    let described = dci::describe(a, e, out);
-    pack(described)
+    match dci::describe(a, e, out) {
+        Ok(()) => 0,
+        Err(refusal) => pack(refusal),
+    }
 }
 
 // Searches a list of candidates, five numbers each: `search::search`. The part of the region follows from the candidate.
@@ -123,9 +131,8 @@ pub extern "C" fn spelt_describe(a: u64, e: u64, out: &mut [u8]) -> u64
 pub extern "C" fn spelt_search_list(n_id: u16, region: &[i32], list: &[u32], out: &mut [u8]) -> u64
     ensures { Returns (named (searching n_id region.now list.now out.old)) result out.new }
 {
-    let mut number = 0;
-    let mut named = 0;
-    let mut noise = 0;
-    search::search(n_id, region, list, out, &mut number, &mut named, &mut noise);
-    number + 256 * (named as u64) + 16777216 * (noise as u64)
+    match search::search(n_id, region, list, out) {
+        Ok(found) => 256 * (found.candidate as u64) + pack_counted(Ok(found.noise)),
+        Err(refusal) => pack(refusal),
+    }
 }

@@ -76,10 +76,21 @@ module _ (n : ℕ) (w : List ℤ) (c e s : List ℕ) where
   abbrev row : List ℤ
   row = row_of (2 * h) w
 
+  -- the row that f makes, and the one that g makes with the bits v, in an array x
+  abbrev pub ByF : List ℤ → Type 0
+  ByF x = row_of h x ≡ fs (take h (row_of (2 * h) w)) (drop h (row_of (2 * h) w))
+
+  abbrev pub ByG : List ℕ → List ℤ → List ℤ → Type 0
+  ByG v y x = row_of h x ≡ gs (take h v) (take h (row_of (2 * h) y)) (drop h (row_of (2 * h) y))
+
+  -- what g is given, an array y and bits v, is long and small enough
+  abbrev pub Given : List ℤ → List ℕ → Type 0
+  Given y v = (length y ≡ 1024) × (4 * h ≤ 1024) × Within (2 ^ 28) (row_of (2 * h) y) × (h ≤ length v)
+
   -- f has made the first half's row
   pub record Split : Type 0 where
     pub w₁ : List ℤ
-    pub row₁ : row_of h w₁ ≡ fs (take h (row_of (2 * h) w)) (drop h (row_of (2 * h) w))
+    pub row₁ : ByF w₁
     pub kept₁ : drop (2 * h) w₁ ≡ drop (2 * h) w
 
   -- the first half is decided
@@ -98,7 +109,7 @@ module _ (n : ℕ) (w : List ℤ) (c e s : List ℕ) where
   pub record Again : Type 0 where
     pub first : First
     pub w₃ : List ℤ
-    pub row₃ : row_of h w₃ ≡ gs (take h (first.s₁ ++ drop h s)) (take h (row_of (2 * h) first.w₂)) (drop h (row_of (2 * h) first.w₂))
+    pub row₃ : ByG (first.s₁ ++ drop h s) first.w₂ w₃
     pub kept₃ : drop (2 * h) w₃ ≡ drop (2 * h) first.w₂
 
   -- the second half is decided
@@ -188,15 +199,12 @@ module _ {n : ℕ} {w : List ℤ} {c e s : List ℕ} (ne : n ≡ 0 → ⊥) (r :
     v-is : take H (x.s₁ ++ drop H s) ≡ x.s₁
     v-is = take_at x.s₁ (drop H s) H s₁-size
 
-    pub v-size : length (take H (x.s₁ ++ drop H s)) ≡ H
-    v-size = ap length v-is ∙ s₁-size
-
-    pub g-asks : (length x.w₂ ≡ 1024) × (4 * H ≤ 1024) × Within (2 ^ 28) (row_of (2 * H) x.w₂) × (length (take H (x.s₁ ++ drop H s)) ≡ H)
+    pub g-asks : Given n w c e s x.w₂ (x.s₁ ++ drop H s)
     g-asks = (
       size-kept (2 * H) x.w₂ w w₂-kept (omega (arith, r.whole, most)) ∙ r.whole,
       most,
       subst (Within (2 ^ 28)) (sym row_is) f-asks.2,
-      v-size,
+      omega (arith, length-append x.s₁ (drop H s), s₁-size),
     )
 
   -- ---- the second half

@@ -1,57 +1,27 @@
 // The successive decoder: it calls itself on both halves of a row of soft values, down to a single position.
 #![tactic(auto)]
 
-ghost use Rattle.std.specs.Prelude.{◌≡◌, ◌*◌, ◌≤◌, ◌^◌, length, take, drop};
+ghost use Rattle.std.specs.Prelude.{◌≡◌, ℕ, ◌+◌, ◌*◌, ◌≤◌, ◌<◌, ◌^◌, pos, length, get_or, drop};
 ghost use Rattle.nr.specs.Transform.{transform};
-ghost use Rattle.nr.specs.SuccessiveDecoder.{fs, gs, successive};
+ghost use Rattle.nr.specs.SuccessiveDecoder.{successive};
 ghost use Rattle.nr.specs.Rows.{Within};
 ghost use Rattle.successive_decoder.specs.Levels.{row_of, Ready};
 
-// `work` has a row of M values at M .. 2M, for every M = 2^n at once. This makes the row of `half` values by f from the row of
-// twice as many, which stays.
-fn f_row(work: &mut [i32; 1024], half: usize)
-    requires { (length work.old ≡ 1024) × (4 * half ≤ 1024) × Within (2 ^ 28) (row_of (2 * half) work.old) }
-    ensures work_after { row_of half work.new ≡ fs (take half (row_of (2 * half) work.old)) (drop half (row_of (2 * half) work.old)) }
+// `work` has a row of M values at M .. 2M, for every M = 2^n at once: one array, since no memory is asked for. This makes the row of `half` values from the row of twice as
+// many, which stays: value i by `node` from the values i of its halves.
+fn node_row<F: Fn(usize, i32, i32) -> i32>(work: &mut [i32; 1024], half: usize, node: F)
+    requires room { (length work.old ≡ 1024) × (4 * half ≤ 1024) }
+    requires callable { (i : ℕ) → i < half → F.pre node i (get_or work.old (2 * half + i) (pos 0)) (get_or work.old (3 * half + i) (pos 0)) }
+    ensures work_after { (i : ℕ) → i < half → F.post node i (get_or work.old (2 * half + i) (pos 0)) (get_or work.old (3 * half + i) (pos 0)) (get_or work.new (half + i) (pos 0)) }
     ensures work_unchanged { drop (2 * half) work.new ≡ drop (2 * half) work.old }
 {
     // Half of all rows have one value: for them no loop is set up.
     if half == 1 {
-        let a = work[2];
-        let b = work[3];
-        let r = nodes::check_node(a, b);
-        work[1] = r;
+        work[1] = node(0, work[2], work[3]);
         return;
     }
-    let mut i = 0; // values made
-    while i < half {
-        let a = work[2 * half + i];
-        let b = work[3 * half + i];
-        let r = nodes::check_node(a, b);
-        work[half + i] = r;
-        i += 1;
-    }
-}
-
-// The same by g, with the first half's bits coded again.
-fn g_row(work: &mut [i32; 1024], half: usize, v: &[u8])
-    requires { (length work.old ≡ 1024) × (4 * half ≤ 1024) × Within (2 ^ 28) (row_of (2 * half) work.old) × (length v.now ≡ half) }
-    ensures work_after { row_of half work.new ≡ gs v.now (take half (row_of (2 * half) work.old)) (drop half (row_of (2 * half) work.old)) }
-    ensures work_unchanged { drop (2 * half) work.new ≡ drop (2 * half) work.old }
-{
-    if half == 1 {
-        let a = work[2];
-        let b = work[3];
-        let r = nodes::bit_node(v[0], a, b);
-        work[1] = r;
-        return;
-    }
-    let mut i = 0;
-    while i < half {
-        let a = work[2 * half + i];
-        let b = work[3 * half + i];
-        let r = nodes::bit_node(v[i], a, b);
-        work[half + i] = r;
-        i += 1;
+    for i in 0..half {
+        work[half + i] = node(i, work[2 * half + i], work[3 * half + i]);
     }
 }
 
@@ -70,7 +40,7 @@ fn decode(n: usize, work: &mut [i32; 1024], marks: &[u8], est: &mut [u8], sums: 
         sums[0] = u;
     } else {
         let half = marks.len() / 2;
-        f_row(work, half);
+        node_row(work, half, |_, a, b| nodes::check_node(a, b));
         decode(
             n - 1,
             work,
@@ -78,7 +48,7 @@ fn decode(n: usize, work: &mut [i32; 1024], marks: &[u8], est: &mut [u8], sums: 
             &mut est[..half],
             &mut sums[..half],
         );
-        g_row(work, half, &sums[..half]);
+        node_row(work, half, |i, a, b| nodes::bit_node(sums[i], a, b));
         decode(
             n - 1,
             work,

@@ -97,7 +97,7 @@ static struct kind kinds[] = {
     {"encode", encode, SIZE_A, NONE, SIZE_E, 0, 3400, {0}},
     {"decode", decode, NONE, SIZE_E, SIZE_A, -127, 19000, {0}},
     {"loopback", loopback, SIZE_A, SIZE_E, SIZE_A, 1, 28000, {0}},
-    {"describe", describe, NONE, NONE, ROLES, 0, 2000, {0}},
+    {"describe", describe, NONE, NONE, ROLES, 0, 700, {0}},
 };
 
 enum { KINDS = sizeof kinds / sizeof *kinds };

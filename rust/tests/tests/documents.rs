@@ -132,12 +132,12 @@ fn tables_of_crates_have_each_once() {
     assert_same("docs/ARCHITECTURE.md", &named, &names(&crates()));
 }
 
-/// The functions of a crate's sources.
+/// The functions and methods of a crate's sources.
 fn functions(name: &str) -> Vec<String> {
     let sources = files(format!("crates/{name}/src"), ".rt");
     let sources: Vec<String> = sources.iter().map(text).collect();
     let name_of = |line: &str| {
-        let (before, rest) = line.split_once("fn ")?;
+        let (before, rest) = line.trim_start().split_once("fn ")?;
         let modifiers = ["", "pub ", "pub extern \"C\" "];
         let name = rest.split_once(['(', '<'])?.0.to_string();
         modifiers.contains(&before).then_some(name)

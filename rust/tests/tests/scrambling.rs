@@ -120,7 +120,7 @@ fn masks_of_the_jump_are_the_references() {
     // No call has x1 start from anything but 1, so its masks can be read in the source alone.
     let source = |name| fs::read_to_string(root().join("crates/jump/src").join(name)).unwrap();
     let (tables, code) = (source("masks.rt"), source("lib.rt"));
-    let (x1, x2) = tables.split_once("const X2").expect("the second table");
+    let (x1, x2) = tables.split_once("static X2").expect("the second table");
     assert_eq!(hexadecimals(x1), scrambling::masks(&scrambling::X1));
     assert_eq!(hexadecimals(x2), scrambling::masks(&scrambling::X2));
     let from_one = scrambling::jumped(&scrambling::X1, 1);

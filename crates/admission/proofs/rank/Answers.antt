@@ -1,22 +1,18 @@
 -- `admission::rank` meets its contract.
 -- Assumes nothing.
-use Prim.Native.Nat.{◌+◌, ◌-◌, ◌*◌, ◌/◌, ◌%◌, ◌^◌}
-use native.Mathlib.Omega.{arith}
-use mathlib.Core.Path.{◌≡◌, ap}
-use lib.ListN.{length, get_or}
-use Rattle.nr.specs.Construction.{rank}
-use Rattle.admission.proofs.Ranks.{ranks-length, block-lt, rank_is}
+use Prim.Native.Nat.{◌-◌, ◌/◌, ◌^◌}
+use mathlib.Core.Path.{◌≡◌}
+use lib.ListN.{get_or}
+use Rattle.nr.specs.Construction.{P}
+use Rattle.admission.specs.Window.{ranks}
+use Rattle.admission.proofs.Ranks.{block-lt, rank_is}
 use Rattle.admission.proofs.rank.Goals as goal
-use Rattle.admission.proofs.rank.Goals.{Start}
 
-result : (c : Start)
-    → get_or c.args.inverse.now (c.args.p / 2 ^ c.args.shift) 0 * 2 ^ c.args.shift % 2 ^ 64 + (c.args.p - c.args.p / 2 ^ c.args.shift * 2 ^ c.args.shift % 2 ^ 64)
-    ≡ rank c.args.shift c.args.p
-result c = rw c.requires.0 (rank_is c.args.shift c.args.p c.requires.1 c.requires.2)
-
-pub bounds-inverse-block : goal.bounds-inverse-block
-bounds-inverse-block c =
-    omega (arith, ap length c.requires.0, ranks-length, block-lt c.args.shift c.args.p c.requires.1 c.requires.2)
+pub bounds-block : goal.bounds-block
+bounds-block c = block-lt c.args.length.n c.args.p c.args.length.within c.requires
 
 pub returns : goal.returns
-returns c = result (goal.at.returns c).Start
+unfolding ranks P
+returns c =
+    let e : c.from.result ≡ get_or ranks (c.args.p / 2 ^ (c.args.length.n - 5)) 0 = c.from.ensures in
+    rw e (rank_is c.args.length.n c.args.p c.args.length.within c.requires)

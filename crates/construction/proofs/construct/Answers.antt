@@ -1,33 +1,55 @@
 -- `construction::construct` meets its contract.
 -- Assumes nothing.
-use mathlib.Core.Path.{ap, ◌∙◌}
+use Prim.Native.Nat.{◌≤◌}
+use native.Mathlib.Omega.{arith}
+use mathlib.Core.Path.{◌≡◌, sym, ap, ◌∙◌}
+use lib.ListN.{length, take}
+use lib.Seq.{length-take-le}
+use Rattle.nr.specs.declared.Sizes.{Sizes}
 use Rattle.nr.specs.Numbers.{K}
-use Rattle.nr.specs.Construction.{layout}
-use Rattle.nr.proofs.Construction.{Sized, accepted}
+use Rattle.nr.specs.Construction.{Layout, layout}
 use Rattle.construction.specs.Shapes.{padded}
-use Rattle.construction.proofs.Layouts.{shape_size, exponent-is, wanted, positions-are, few}
+use Rattle.construction.proofs.Layouts.{room, exponent-is, many, few, found, placed}
 use Rattle.construction.proofs.construct.Goals as goal
-use Rattle.construction.proofs.construct.Goals.{Start}
+use Rattle.construction.proofs.construct.Goals.{After-bits, After-collect-positions}
 
--- A and E are accepted
-sized : (c : Start) → Sized (K c.args.a) c.args.e
-sized c = accepted c.args.a c.args.e c.requires
+-- the part of the row that is lent
+inside : (c : After-bits) → c.bits.result ≤ 512
+inside c = omega (arith, c.bits.ensures, room c.shape_of-shape.result)
 
-pub select-positions-requires : goal.select-positions-requires
-select-positions-requires c =
-    let s = sized (goal.at.select-positions-requires c).Start in
-    let shape = c.shape_of-s in
-    let z = shape_size (K c.args.a) c.args.e s shape.result shape.ensures in record {
-      le_n = (z.low, z.high, shape.ensures.len);
-      k_in_bounds = (wanted (K c.args.a) c.args.e s shape.result shape.ensures, few (K c.args.a) c.args.e s shape.result shape.ensures);
+size : (c : After-bits) → length (take c.bits.result c.mark.new.row) ≡ c.bits.result
+size c = length-take-le c.bits.result c.mark.new.row (omega (arith, inside c, c.mark.array_long))
+
+-- the row that is made
+row : (c : After-collect-positions) → c.collect-positions.result ≡ padded (layout (K c.shape_of-shape.result.sizes.a) c.shape_of-shape.result.sizes.e).positions
+row c = c.collect-positions.ensures ∙ ap padded (found c.shape_of-shape.result c.bits.result c.bits.ensures c.mark.new.row c.mark.ensures)
+
+pub slice_bounds-row-end : goal.slice_bounds-row-end
+slice_bounds-row-end c = omega (arith, inside c, c.mark.array_long)
+
+pub slice_bounds-collect-end : goal.slice_bounds-collect-end
+slice_bounds-collect-end c = sym (size (goal.at.slice_bounds-collect-end c).After-bits)
+
+pub collect-positions-requires : goal.collect-positions-requires
+collect-positions-requires c =
+    let b = (goal.at.collect-positions-requires c).After-bits in
+    let s = c.shape_of-shape.result in
+    (omega (arith, size b, inside b), omega (arith, ap length (found s c.bits.result c.bits.ensures c.mark.new.row c.mark.ensures), few s))
+
+pub invariant_of-result : goal.invariant_of-result
+invariant_of-result c =
+    let s = c.shape_of-shape.result in record {
+      few = omega (arith, many s, few s);
+      placed = placed s c.collect-positions.result (row (goal.at.invariant_of-result c).After-collect-positions);
     }
 
 pub returns : goal.returns
 unfolding layout
 returns c =
-    let s = sized (goal.at.returns c).Start in
-    let shape = c.shape_of-s in record {
-      n = exponent-is (K c.args.a) c.args.e s shape.result shape.ensures;
-      kind = shape.ensures.kind;
-      positions = c.select-positions.ensures ∙ ap padded (positions-are (K c.args.a) c.args.e s shape.result shape.ensures);
+    let s = c.shape_of-shape.result in
+    let same = ap (λ (z : Sizes). layout (K z.a) z.e) c.shape_of-shape.ensures in record {
+      n = exponent-is s ∙ ap (λ (l : Layout). l.n) same;
+      kind = s.kind_is ∙ ap (λ (l : Layout). l.kind) same;
+      k = many s ∙ ap (λ (l : Layout). length l.positions) same;
+      positions = row (goal.at.returns c).After-collect-positions ∙ ap (λ (l : Layout). padded l.positions) same;
     }

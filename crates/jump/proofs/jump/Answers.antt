@@ -1,43 +1,45 @@
--- `jump::jump` meets its contract. The loop's invariant: r has the parities under the masks from i on.
+-- `jump::jump` meets its contract. The loop's invariant: r has the parities under the masks that the iterator has left behind.
 -- Assumes nothing.
-use Prim.Native.Nat.{ℕ, suc, ◌+◌, ◌-◌, ◌*◌, ◌^◌, ◌≤◌, ◌<◌}
 use native.Mathlib.Nat.{lt_of_lt_of_le}
-use native.Mathlib.Omega.{arith}
-use mathlib.Core.Path.{◌≡◌, sym, ap, ◌∙◌}
-use mathlib.Core.List.{List, ◌∷◌}
-use lib.ListN.{length, get_or, drop, length-drop}
 use lib.Pow.{pow_mono}
-use lib.Seq.{drop-length, drop-cons}
+use Rattle.std.proofs.Common.{◌≡◌, ◌<◌, ◌≤◌, ◌^◌, length, ℕ, ◌+◌, ◌*◌, List, [], ◌∷◌, ◌++◌, arith, sym, ap, ◌∙◌, refl, append-nil, append_assoc, length-append}
+use Rattle.std.proofs.lemmas.List.{nil_from_length}
 use Rattle.jump.specs.Parities.{parity_under, jumped}
 use Rattle.jump.proofs.Parities.{jumped-lt}
 use Rattle.jump.proofs.jump.Goals as goal
-use Rattle.jump.proofs.jump.Goals.{In-loop-i}
+use Rattle.jump.proofs.jump.Goals.{In-Some}
 
-room : (c : In-loop-i) → c.loop-i.r < 2 ^ 30
+-- the mask of this turn stands before those left behind
+split : (c : In-Some) → c.next.new.self.iter.rest.now ++ (c.in-Some.mask.now ∷ c.loop-mask.invariant.0) ≡ c.args.masks.now
+split c =
+    sym (append_assoc c.next.new.self.iter.rest.now (c.in-Some.mask.now ∷ []) c.loop-mask.invariant.0)
+    ∙ ap (λ (r : List ℕ). r ++ c.loop-mask.invariant.0) (sym c.in-Some.ensures.steps) ∙ c.loop-mask.invariant.1
+
+room : (c : In-Some) → c.loop-mask.r < 2 ^ 30
 room c =
-    let t = c.loop-i in
-    let masks = c.args.masks.now in
-    let few : length (drop t.i masks) ≤ 30 = rw length-drop (omega (arith, c.requires)) in
-    rw t.invariant.1 (lt_of_lt_of_le (jumped-lt (drop t.i masks) c.args.s) (pow_mono few))
+    let i = c.loop-mask.invariant in
+    let few : length i.0 ≤ 30 = omega (arith, simp length-append at (ap length (split c)), c.told-masks) in
+    rw i.2 (lt_of_lt_of_le (jumped-lt i.0 c.args.s) (pow_mono few))
 
-pub loop-i-init : goal.loop-i-init
+pub loop-mask-init : goal.loop-mask-init
 unfolding jumped
-loop-i-init c = (omega arith, ap (λ (r : List ℕ). jumped r c.args.s) (sym (ap (λ (n : ℕ). drop n c.args.masks.now) (sym c.requires) ∙ drop-length c.args.masks.now)))
+loop-mask-init c =
+    ([], append-nil c.into_iter-mask-iterator.result.iter.rest.now ∙ (let e = c.iter.ensures.rest in let f = c.rev-mask-items.ensures.source in cc), refl)
 
 pub overflow_mul-r : goal.overflow_mul-r
-overflow_mul-r c = omega (arith, room (goal.at.overflow_mul-r c).In-loop-i)
+overflow_mul-r c = omega (arith, room c)
 
 pub overflow_add-r : goal.overflow_add-r
-overflow_add-r c = omega (arith, room (goal.at.overflow_add-r c).In-loop-i)
+overflow_add-r c = omega (arith, room (goal.at.overflow_add-r c).In-Some)
 
-pub loop-i-preserved : goal.loop-i-preserved
+pub loop-mask-preserved : goal.loop-mask-preserved
 unfolding jumped
-loop-i-preserved c =
-    let t = c.loop-i in
-    let a = c.args in
-    let masks = a.masks.now in
-    let m : ℕ = get_or masks (t.i - 1) 0 in
-    let next : suc (t.i - 1) ≡ t.i = omega arith in
-    let here : drop (t.i - 1) masks ≡ m ∷ drop t.i masks =
-    drop-cons masks (t.i - 1) 0 (omega (arith, c.requires)) ∙ ap (λ (n : ℕ). m ∷ drop n masks) next in
-    (omega arith, ap (λ (r : ℕ). r * 2 + parity_under m a.s) t.invariant.1 ∙ sym (ap (λ (l : List ℕ). jumped l a.s) here))
+loop-mask-preserved c =
+    let i = c.loop-mask.invariant in
+    (c.in-Some.mask.now ∷ i.0, split (goal.at.loop-mask-preserved c).In-Some, ap (λ (r : ℕ). r * 2 + parity_under c.in-Some.mask.now c.args.s) i.2)
+
+pub returns : goal.returns
+returns c =
+    let i = c.loop-mask.invariant in
+    i.2 ∙ ap (λ (masks : List ℕ). jumped masks c.args.s)
+    (ap (λ (rest : List ℕ). rest ++ i.0) (sym (nil_from_length c.loop-mask.mask-iterator.iter.rest.now c.in-None.ensures.steps.0)) ∙ i.1)

@@ -1,18 +1,16 @@
 -- `nodes::decision` meets its contract.
 -- Assumes nothing.
-use Rattle.nodes.proofs.Nodes.{told, decide-frozen, decide-neg, decide-pos}
-use mathlib.Core.Bool.{true, false}
+use mathlib.Core.Path.{◌∙◌, ap}
+use mir.Val.{bool_byte}
+use Rattle.nodes.proofs.Nodes.{decide-frozen, decide-sign}
 use Rattle.nodes.proofs.decision.Goals as goal
+use Rattle.nodes.proofs.decision.Goals.{then-mark-ne0, else-mark-ne0}
 
-pub returns-then-x-lt0 : goal.returns-then-x-lt0
-returns-then-x-lt0 c =
-    decide-neg c.args.mark c.args.x c.if-mark-eq0.false
-    (told c.args.x true c.ranges.x c.if-x-lt0.true)
-
-pub returns-then-mark-eq0 : goal.returns-then-mark-eq0
-returns-then-mark-eq0 c = decide-frozen c.args.mark c.args.x c.if-mark-eq0.true
-
-pub returns-else-x-lt0 : goal.returns-else-x-lt0
-returns-else-x-lt0 c =
-    decide-pos c.args.mark c.args.x
-    (told c.args.x false c.ranges.x c.if-x-lt0.false)
+pub returns : goal.returns
+returns c =
+    let b = c.if-mark-ne0 in
+    c.from.ensures
+    ∙ elim b.branch [
+      | then-mark-ne0 w ↦ ap bool_byte w.from-is ∙ decide-sign c.args.mark c.args.x c.ranges.x w.if-mark-ne0.true
+      | else-mark-ne0 w ↦ ap bool_byte w.from-is ∙ decide-frozen c.args.mark c.args.x w.if-mark-ne0.false
+    ]

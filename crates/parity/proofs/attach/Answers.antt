@@ -15,4 +15,4 @@ returns c =
     let payload = c.args.payload.now in
     two-parts c.copy.new.to _ c.write_bits.new.row (length payload) (ap length c.copy.ensures)
     ∙ ap₂ (λ (x y : List ℕ). x ++ y) c.copy.ensures c.write_bits.ensures
-    ∙ masked payload (parity payload) c.parity.result c.args.rnti c.requires.1 c.parity.ensures c.ranges.rnti.fits
+    ∙ (rw c.from.ensures (masked payload (parity payload) c.parity.result c.args.rnti c.requires.1 c.parity.ensures c.ranges.rnti.fits))

@@ -6,4 +6,4 @@ use Rattle.parity.proofs.feed.Goals as goal
 pub returns : goal.returns
 returns c =
     let a = c.args in
-    record { small = next-lt a.register a.bit c.requires.0 c.requires.1; bits = fed a.register a.bit c.requires.0 c.requires.1 }
+    rw c.from.ensures record { small = next-lt a.register a.bit c.requires.0 c.requires.1; bits = fed a.register a.bit c.requires.0 c.requires.1 }

@@ -13,5 +13,5 @@ pub returns : goal.returns
 returns c =
     let row = c.args.row.now in
     let A = length row - 24 in
-    matched A row c.parity.result c.read_bits-last.result c.args.rnti (omega arith) c.requires.1 c.parity.ensures
-    (subst (λ (r : List ℕ). Holds r c.read_bits-last.result) (rest A row) c.read_bits-last.ensures) c.ranges.rnti.fits
+    rw c.from.ensures (matched A row c.parity.result c.read_bits-last.result c.args.rnti (omega arith) c.requires.1 c.parity.ensures
+    (subst (λ (r : List ℕ). Holds r c.read_bits-last.result) (rest A row) c.read_bits-last.ensures) c.ranges.rnti.fits)

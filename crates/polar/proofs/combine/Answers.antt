@@ -2,19 +2,15 @@
 -- Assumes nothing.
 use native.Mathlib.Omega.{arith}
 use mathlib.Core.Path.{◌≡◌, ◌∙◌}
-use lib.ListN.{length-set}
 use Rattle.polar.proofs.Halves.{sum-next, all-filled}
 use Rattle.polar.proofs.combine.Goals as goal
 
 pub loop-i-preserved : goal.loop-i-preserved
 loop-i-preserved c =
-    let l = c.loop-i in (
-      omega arith,
-      simp length-set l.invariant.1,
-      sum-next c.args.block.now c.args.half c.requires.block_len c.requires.bits l.block l.i l.invariant.2 c.loop-i-test.true,
-    )
+    let l = c.loop-i in
+    sum-next c.args.block.now c.args.half c.requires.block_len c.requires.bits l.block l.i l.invariant c.loop-i-test.true
 
 pub returns : goal.returns
 returns c =
     let e : c.loop-i.i ≡ c.args.half = omega arith in
-    (rw e at c.loop-i.invariant.2) ∙ all-filled c.args.block.now c.args.half c.requires.block_len
+    (rw e at c.loop-i.invariant) ∙ all-filled c.args.block.now c.args.half c.requires.block_len

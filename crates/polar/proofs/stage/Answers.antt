@@ -1,32 +1,44 @@
--- `polar::stage` meets its contract. The loop's invariant: the blocks before `at` are joined, and joining the others makes what is asked.
+-- `polar::stage` meets its contract. The loop's invariant: the first b blocks are joined, the rest is as it was.
 -- Assumes nothing.
-use Prim.Native.Nat.{◌+◌, ◌*◌, ◌-◌, ◌≤◌}
+use native.Mathlib.Nat.{mul_comm}
 use native.Mathlib.Omega.{arith}
-use mathlib.Core.Path.{◌≡◌, ◌∙◌}
+use Prim.Native.Nat.{ℕ, ◌+◌, ◌*◌, ◌-◌, ◌/◌, ◌≤◌}
+use mathlib.Core.Path.{◌≡◌, ap, ◌∙◌, subst, sym}
+use lib.ListN.{length}
 use borrow.Author.Rules.{rules}
-use lib.ListN.{length, length-take, length-drop}
+use Rattle.nr.specs.Rows.{Bits}
 use Rattle.nr.proofs.Zip.{bits-take, bits-drop}
-use Rattle.polar.proofs.Blocks.{room, left-next, bits-next}
+use Rattle.polar.specs.Blocks.{joined, each}
+use Rattle.polar.proofs.Halves.{length-joined, bits-joined}
+use Rattle.polar.proofs.Blocks.{each-next, bits_each, count, room}
 use Rattle.polar.proofs.stage.Goals as goal
-use Rattle.polar.proofs.stage.Goals.{In-loop-at}
+use Rattle.polar.proofs.stage.Goals.{In-loop-b}
 
-in-turn : (c : In-loop-at) → c.loop-at.at + 2 * c.args.half ≤ length c.loop-at.row
-in-turn c = room c.loop-at.invariant.0 c.loop-at-test.true
+in-turn : (c : In-loop-b) → 2 * c.args.half * c.loop-b.b + 2 * c.args.half ≤ length c.args.row.now
+in-turn c = room (length c.args.row.now) c.args.half c.loop-b.b c.loop-b-test.true
 
-pub combine-requires : goal.combine-requires
-combine-requires c =
-    let b = c.loop-at.invariant.2 in
-    record { block_len = simp (length-take, length-drop) (omega (arith, in-turn (goal.at.combine-requires c).In-loop-at)); bits = search (bits-take, bits-drop) }
+pub slice_bounds-combine-end : goal.slice_bounds-combine-end
+slice_bounds-combine-end c =
+    let fits = in-turn (goal.at.slice_bounds-combine-end c).In-loop-b in
+    search rules
 
-pub loop-at-preserved : goal.loop-at-preserved
-loop-at-preserved c =
-    let l = c.loop-at in
+pub combine-requires-clause-bits : goal.combine-requires-clause-bits
+combine-requires-clause-bits c =
+    let row = c.args.row.now in
     let half = c.args.half in
-    let d = c.combine in
-    let k = l.at + 2 * half - l.at in
-    let fits : l.at + 2 * half ≤ length l.row = room l.invariant.0 c.loop-at-test.true in
-    let as_long : length d.new.block ≡ 2 * half = d.auto.block ∙ simp (length-take, length-drop) (omega (arith, fits)) in (
-      left-next l.invariant.0 c.loop-at-test.true k (omega arith) d.new.block as_long d.ensures,
-      search rules ∙ l.invariant.1,
-      bits-next half l.at k l.row d.new.block l.invariant.2 d.ensures,
-    )
+    let b : Bits c.loop-b.row = subst Bits (sym c.loop-b.invariant) (bits_each (joined half) (2 * half) (λ v p. bits-joined v half p) c.loop-b.b row c.requires.bits) in
+    search (bits-take, bits-drop)
+
+pub loop-b-preserved : goal.loop-b-preserved
+loop-b-preserved c =
+    let half = c.args.half in
+    each-next (joined half) (2 * half) (length-joined half) c.loop-b.b c.args.row.now c.loop-b.row c.combine.new.block (2 * half * c.loop-b.b)
+    (2 * half * c.loop-b.b + 2 * half - 2 * half * c.loop-b.b) c.loop-b.invariant (mul_comm (2 * half) c.loop-b.b) (omega arith)
+    (in-turn (goal.at.loop-b-preserved c).In-loop-b) c.combine.ensures
+
+pub returns : goal.returns
+returns c =
+    let row = c.args.row.now in
+    let half = c.args.half in
+    let all : c.loop-b.b ≡ length row / (2 * half) = omega (arith, count (length row) half) in
+    c.loop-b.invariant ∙ ap (λ (b : ℕ). each (joined half) (2 * half) b row) all

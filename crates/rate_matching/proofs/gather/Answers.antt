@@ -1,49 +1,49 @@
 -- `rate_matching::gather` meets its contract.
 -- Assumes nothing.
-use Prim.Native.Nat.{◌≤◌}
+use Prim.Native.Nat.{ℕ, ◌^◌, ◌≤◌, ◌<◌}
 use native.Mathlib.Omega.{arith}
-use mathlib.Core.Path.{refl, sym, ◌∙◌}
+use mathlib.Core.Path.{refl, sym, subst⁻¹, ◌∙◌}
 use lib.ListN.{length}
 use lib.Pow.{pow_pos}
 use Rattle.nr.specs.Construction.{P}
-use Rattle.rate_matching.proofs.Moving.{code-le}
-use Rattle.rate_matching.proofs.Undoing.{lent_length, lent-zeros, lent_fits, made-le, made-length, made_row}
+use Rattle.nr.specs.Rows.{Within}
+use Rattle.nr.specs.RateMatching.{Fits}
+use Rattle.rate_matching.proofs.Moving.{code-le, named_places, by-position}
+use Rattle.rate_matching.proofs.Undoing.{lent_length, lent-zeros, undone}
 use Rattle.rate_matching.proofs.gather.Goals as goal
-use Rattle.rate_matching.proofs.gather.Goals.{Start}
+use Rattle.rate_matching.proofs.gather.Goals.{After-bits}
 
-room : (c : Start) → length c.args.row.now ≤ 512
-room c = omega (arith, code-le c.args.n c.requires.1)
-
-pub slice_bounds-y-end : goal.slice_bounds-y-end
-slice_bounds-y-end c = room (goal.at.slice_bounds-y-end c).Start
-
-pub slice_bounds-undo_bit_selection-end : goal.slice_bounds-undo_bit_selection-end
-slice_bounds-undo_bit_selection-end c = sym (lent_length _ _ (room (goal.at.slice_bounds-undo_bit_selection-end c).Start))
-
-pub undo_bit_selection-requires : goal.undo_bit_selection-requires
-undo_bit_selection-requires c =
-    let l = lent_fits _ _ (room (goal.at.undo_bit_selection-requires c).Start) c.requires.3 c.args.kind c.args.soft.now (pow_pos c.args.n) c.requires.2 in
-    record { y_nonzero = (l.0, l.1, c.requires.4, c.requires.5); y_value = lent-zeros _ _ (room (goal.at.undo_bit_selection-requires c).Start) refl }
-
-pub slice_bounds-y-end-2 : goal.slice_bounds-y-end-2
-slice_bounds-y-end-2 c =
-    made-le _ _ (room (goal.at.slice_bounds-y-end-2 c).Start) c.requires.3 c.args.kind c.args.soft.now c.undo_bit_selection.ensures (pow_pos c.args.n) c.requires.2 _
-
-pub slice_bounds-undo_sub_blocks-end-2 : goal.slice_bounds-undo_sub_blocks-end-2
-slice_bounds-undo_sub_blocks-end-2 c =
-    sym (made-length _ _ (room (goal.at.slice_bounds-undo_sub_blocks-end-2 c).Start) c.requires.3 c.args.kind c.args.soft.now c.undo_bit_selection.ensures (pow_pos c.args.n) c.requires.2 _)
-
-pub undo_sub_blocks-requires : goal.undo_sub_blocks-requires
-unfolding P
-undo_sub_blocks-requires c = (
-  refl,
-  c.requires.0,
-  c.requires.1,
-  made-length _ _ (room (goal.at.undo_sub_blocks-requires c).Start) c.requires.3 c.args.kind c.args.soft.now c.undo_bit_selection.ensures (pow_pos c.args.n) c.requires.2 _ ∙ c.requires.3,
-  c.requires.3,
-)
+room : (c : After-bits) → c.bits.result ≤ 512
+room c = omega (arith, c.bits.ensures, code-le c.args.code.n c.args.code.within.1)
 
 pub returns : goal.returns
+unfolding P
 returns c =
-    c.undo_sub_blocks.ensures
-    ∙ made_row _ _ (room (goal.at.returns c).Start) c.requires.3 c.args.kind c.args.soft.now c.undo_bit_selection.ensures (pow_pos c.args.n) c.requires.2 _
+    let size = lent_length _ _ (room (goal.at.returns c).After-bits) ∙ c.bits.ensures in
+    by-position c.args.code.n c.args.code.within.0 _ _ (c.copy_blocks.auto.to ∙ c.requires.1) c.copy_blocks.ensures
+    ∙ undone (2 ^ c.args.code.n) c.args.soft.now c.args.kind size c.undo_bit_selection.ensures
+
+pub slice_bounds-room-end : goal.slice_bounds-room-end
+slice_bounds-room-end c = room (goal.at.slice_bounds-room-end c).After-bits
+
+pub slice_bounds-y-end : goal.slice_bounds-y-end
+slice_bounds-y-end c = sym (lent_length _ _ (room (goal.at.slice_bounds-y-end c).After-bits))
+
+pub undo_bit_selection-requires-clause-y_nonzero : goal.undo_bit_selection-requires-clause-y_nonzero
+undo_bit_selection-requires-clause-y_nonzero c =
+    let size = lent_length _ _ (room (goal.at.undo_bit_selection-requires-clause-y_nonzero c).After-bits) ∙ c.bits.ensures in
+    subst⁻¹ (λ (m : ℕ). (0 < m) × Fits c.args.kind m (length c.args.soft.now) × (length c.args.soft.now ≤ 1728) × Within 127 c.args.soft.now) size
+    (pow_pos c.args.code.n, c.requires.0, c.requires.2, c.requires.3)
+
+pub undo_bit_selection-requires-clause-y_value : goal.undo_bit_selection-requires-clause-y_value
+undo_bit_selection-requires-clause-y_value c = lent-zeros _ _ (room (goal.at.undo_bit_selection-requires-clause-y_value c).After-bits) refl
+
+pub copy_blocks-requires-clause-sizes : goal.copy_blocks-requires-clause-sizes
+copy_blocks-requires-clause-sizes c = (
+  c.undo_bit_selection.auto.y ∙ lent_length _ _ (room (goal.at.copy_blocks-requires-clause-sizes c).After-bits) ∙ c.bits.ensures,
+  c.requires.1,
+)
+
+pub copy_blocks-requires-clause-named : goal.copy_blocks-requires-clause-named
+unfolding P
+copy_blocks-requires-clause-named c = named_places

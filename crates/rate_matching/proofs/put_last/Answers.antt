@@ -7,4 +7,4 @@ use Rattle.rate_matching.proofs.put_last.Goals as goal
 
 pub returns : goal.returns
 returns c =
-    undo-puncturing (length c.args.y.now) c.args.soft.now c.args.y.now refl c.requires.0 c.requires.1 _ c.copy_soft.ensures
+    undo-puncturing (length c.args.y.now) c.args.soft.now c.args.y.now refl c.requires.0 c.requires.1 _ c.copy.ensures

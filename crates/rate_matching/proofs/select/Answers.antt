@@ -1,48 +1,36 @@
 -- `rate_matching::select` meets its contract.
 -- Assumes nothing.
-use Prim.Native.Nat.{ℕ, ◌<◌}
+use Prim.Native.Nat.{ℕ, ◌^◌, ◌≤◌, ◌<◌}
 use native.Mathlib.Omega.{arith}
-use mathlib.Core.Path.{refl, sym, subst⁻¹, ◌∙◌}
+use mathlib.Core.Path.{sym, subst⁻¹, ◌∙◌}
 use lib.ListN.{length}
 use lib.Pow.{pow_pos}
 use lib.Seq.{length-take-le}
-use Rattle.nr.specs.Construction.{P}
 use Rattle.nr.specs.RateMatching.{Fits}
 use Rattle.rate_matching.proofs.Moving.{code-le}
-use Rattle.rate_matching.proofs.Sending.{front_length, front-le, selects}
+use Rattle.rate_matching.proofs.Sending.{ordered-length, selects}
 use Rattle.rate_matching.proofs.select.Goals as goal
+use Rattle.rate_matching.proofs.select.Goals.{After-bits}
+
+room : (c : After-bits) → c.bits.result ≤ 512
+room c = omega (arith, c.bits.ensures, code-le c.args.code.n c.args.code.within.1)
+
+pub slice_bounds-room-end : goal.slice_bounds-room-end
+slice_bounds-room-end c = room (goal.at.slice_bounds-room-end c).After-bits
 
 pub slice_bounds-y-end : goal.slice_bounds-y-end
-slice_bounds-y-end c =
-    omega (arith, code-le c.args.n c.requires.1)
-
-pub slice_bounds-sub_blocks-end-2 : goal.slice_bounds-sub_blocks-end-2
-slice_bounds-sub_blocks-end-2 c =
-    sym (length-take-le (length c.args.d.now) _ (omega (arith, code-le c.args.n c.requires.1)))
+slice_bounds-y-end c = sym (length-take-le c.bits.result _ (room (goal.at.slice_bounds-y-end c).After-bits))
 
 pub sub_blocks-requires : goal.sub_blocks-requires
-unfolding P
 sub_blocks-requires c = (
-  refl,
   c.requires.0,
-  c.requires.1,
-  c.requires.2,
-  length-take-le (length c.args.d.now) _ (omega (arith, code-le c.args.n c.requires.1)) ∙ c.requires.2,
+  length-take-le c.bits.result _ (room (goal.at.sub_blocks-requires c).After-bits) ∙ c.bits.ensures,
 )
-
-pub slice_bounds-y-end-2 : goal.slice_bounds-y-end-2
-slice_bounds-y-end-2 c =
-    front-le c.args.d.now c.sub_blocks.ensures c.requires.2 _
-
-pub slice_bounds-bit_selection-end : goal.slice_bounds-bit_selection-end
-slice_bounds-bit_selection-end c =
-    c.requires.2 ∙ sym (front_length c.args.d.now c.sub_blocks.ensures c.requires.2 _)
 
 pub bit_selection-requires : goal.bit_selection-requires
 bit_selection-requires c =
-    let e = front_length c.args.d.now c.sub_blocks.ensures c.requires.2 _ in
-    subst⁻¹ (λ (m : ℕ). (0 < m) × Fits c.args.kind m (length c.args.out.now)) e (pow_pos c.args.n, c.requires.3)
+    subst⁻¹ (λ (m : ℕ). (0 < m) × Fits c.args.kind m (length c.args.out.now)) (ordered-length (2 ^ c.args.code.n) c.args.d.now c.sub_blocks.ensures)
+    (pow_pos c.args.code.n, c.requires.1)
 
 pub returns : goal.returns
-returns c =
-    c.bit_selection.ensures ∙ selects c.args.d.now c.sub_blocks.ensures c.requires.2 _ c.args.kind (length c.args.out.now)
+returns c = c.bit_selection.ensures ∙ selects (2 ^ c.args.code.n) c.args.d.now c.sub_blocks.ensures c.args.kind (length c.args.out.now)

@@ -6,56 +6,57 @@ use borrow.Rule.Slice.PartMut.{put_mid}
 use mathlib.Core.Path.{◌≡◌, sym, subst, ap, ◌∙◌}
 use mathlib.Core.List.{List}
 use lib.IntN.{ℤ, pos}
-use lib.ListN.{length, take, drop, replicate}
-use lib.Pow.{pow_mono}
+use lib.ListN.{length, take, replicate}
 use Rattle.nr.specs.Transform.{transform}
 use Rattle.nr.specs.SuccessiveDecoder.{descramble, code_row, marks, successive}
 use Rattle.nr.specs.Decoding.{decided}
 use Rattle.nr.specs.Rows.{Within}
+use Rattle.nr.proofs.Lengths.{at_most_512}
 use Rattle.nr.proofs.SoftRows.{length-code_row, code_row-within, descramble-within}
 use Rattle.successive_decoder.specs.Levels.{row_of}
-use Rattle.receiver.proofs.Working.{row-in-place, whole}
+use Rattle.receiver.proofs.Working.{row-in-place}
 use Rattle.receiver.proofs.decide.Goals as goal
-use Rattle.receiver.proofs.decide.Goals.{Start}
+use Rattle.receiver.proofs.decide.Goals.{Start, After-code_row}
 
-abbrev N : Start → ℕ
-N s = length s.args.est.now
+room : (s : Start) → 2 * length s.args.est.now ≤ 1024
+room s = omega (arith, at_most_512 s.requires.lengths.1 s.args.code.now.length.within.1)
 
-room : (s : Start) → 2 * N s ≤ 1024
-room s = omega (arith, s.requires.sequence_len.2, pow_mono {i = s.args.n} {j = 9} s.requires.le_n.1)
-
-abbrev values : Start → List ℤ
+values : Start → List ℤ
 values s =
-    code_row s.args.kind (2 ^ s.args.n) (length s.args.soft.now) (descramble s.args.sequence.now s.args.soft.now)
+    let code = s.args.code.now in
+    code_row code.kind (2 ^ code.length.n) (length s.args.soft.now) (descramble s.args.sequence.now s.args.soft.now)
 
--- it stands in its place, once the part from N to 2N came back as it
-
-in_place : (s : Start) (row : List ℤ) → length row ≡ length (take (2 * N s - N s) (drop (N s) (replicate 1024 (pos 0)))) → row ≡ values s
-    → row_of (2 ^ s.args.n) (put_mid (N s) (2 * N s - N s) (replicate 1024 (pos 0)) row) ≡ values s
-in_place s row kept is =
-    let size : length row ≡ N s = ap length is ∙ length-code_row s.args.kind (2 ^ s.args.n) _ _ ∙ sym s.requires.sequence_len.2 in
-    ap (λ (m : ℕ). row_of m (put_mid (N s) (2 * N s - N s) (replicate 1024 (pos 0)) row)) (sym s.requires.sequence_len.2)
-    ∙ row-in-place (replicate 1024 (pos 0)) row (N s) (room s) kept size
-    ∙ is
+-- they stand in their place, once the part from N to 2N came back as them
+in_place : (c : After-code_row) → let N = length c.args.est.now in
+    row_of (2 ^ c.args.code.now.length.n) (put_mid N (2 * N - N) (replicate 1024 (pos 0)) c.code_row.new.row) ≡ values (goal.at.After-code_row c).Start
+unfolding values
+in_place c =
+    let N = length c.args.est.now in
+    let is = c.requires.lengths.1 in
+    let row = c.code_row.new.row in
+    let size : length row ≡ N = ap length c.code_row.ensures ∙ length-code_row c.args.code.now.kind (2 ^ c.args.code.now.length.n) _ _ ∙ sym is in
+    ap (λ (m : ℕ). row_of m (put_mid N (2 * N - N) (replicate 1024 (pos 0)) row)) (sym is)
+    ∙ row-in-place (replicate 1024 (pos 0)) row N (room (goal.at.After-code_row c).Start) size
+    ∙ c.code_row.ensures
 
 pub returns : goal.returns
-unfolding decided
+unfolding values decided
 returns c =
-    let bits : List ℤ → List ℕ = successive c.args.n (marks (2 ^ c.args.n) c.args.positions.now) in
-    let placed = in_place (goal.at.returns c).Start c.code_row.new.row c.code_row.auto.row c.code_row.ensures in
-    record { est_after = c.decide_row.ensures.est_after ∙ ap bits placed; word_after = c.decide_row.ensures.word_after ∙ ap (λ (v : List ℤ). transform c.args.n (bits v)) placed }
+    let code = c.args.code.now in
+    let bits : List ℤ → List ℕ = successive code.length.n (marks (2 ^ code.length.n) (take code.k code.positions)) in
+    let placed = in_place (goal.at.returns c).After-code_row in
+    record {
+      est_after = c.decide_row.ensures.est_after ∙ ap bits placed;
+      word_after = c.decide_row.ensures.word_after ∙ ap (λ (v : List ℤ). transform code.length.n (bits v)) placed;
+    }
 
 pub slice_bounds-work-end : goal.slice_bounds-work-end
 slice_bounds-work-end c = room (goal.at.slice_bounds-work-end c).Start
 
-pub decide_row-requires : goal.decide_row-requires
-decide_row-requires c =
-    let s = (goal.at.decide_row-requires c).Start in
-    let a = s.args in record {
-      n_bound = (s.requires.le_n.1, s.requires.sequence_len.1, s.requires.sequence_len.2, s.requires.sequence_len.3);
-      work_len = (
-        whole (replicate 1024 (pos 0)) c.code_row.new.row (N s) (room (goal.at.decide_row-requires c).Start) c.code_row.auto.row,
-        subst (Within (2 ^ 20)) (sym (in_place (goal.at.decide_row-requires c).Start c.code_row.new.row c.code_row.auto.row c.code_row.ensures))
-            (code_row-within a.kind (2 ^ a.n) (length a.soft.now) _ s.requires.le_n.3 (descramble-within 127 a.sequence.now a.soft.now s.requires.le_n.4)),
-      );
-    }
+pub decide_row-requires-clause-work : goal.decide_row-requires-clause-work
+unfolding values
+decide_row-requires-clause-work c =
+    let code = c.args.code.now in
+    let soft = c.args.soft.now in
+    subst (Within (2 ^ 20)) (sym (in_place (goal.at.decide_row-requires-clause-work c).After-code_row))
+    (code_row-within code.kind (2 ^ code.length.n) (length soft) _ c.requires.fits.1 (descramble-within 127 c.args.sequence.now soft c.requires.fits.2))

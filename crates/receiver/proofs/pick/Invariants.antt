@@ -1,13 +1,8 @@
 -- `receiver::pick` meets its contract.
 -- Assumes nothing.
-use Prim.Native.Nat.{◌-◌}
-use lib.ListN.{length}
 use Rattle.nr.specs.Rows.{entries}
 use Rattle.rows.proofs.Filling.{Filling}
 use Rattle.receiver.proofs.pick.Given as goal
 
 abbrev pub invariant-loop-i : goal.invariant-loop-i
 invariant-loop-i l = Filling l.initial.bits (entries l.positions l.row) l.bits l.i
-
-abbrev pub decreases-loop-i : goal.decreases-loop-i
-decreases-loop-i l = length l.positions - l.i

@@ -5,6 +5,4 @@ use Rattle.scrambling.proofs.scramble.Goals as goal
 
 pub returns : goal.returns
 unfolding gold
-returns c =
-    let e = c.start-r.ensures in
-    rw (e.0, e.1) at c.add_sequence.ensures
+returns c = rw (c.start.ensures.0, c.start.ensures.1) at c.add_sequence.ensures

@@ -14,5 +14,5 @@ returns c =
     let a = c.args in
     let n = length a.row.now in
     c.scramble.ensures
-    ∙ ap₂ (λ (row : List ℕ) (k : ℕ). xors row (gold a.seed k)) c.clear.ensures c.clear.auto.row
-    ∙ zeros-gold a.seed n
+    ∙ ap₂ (λ (row : List ℕ) (k : ℕ). xors row (gold a.seed.bits k)) c.clear.ensures c.clear.auto.row
+    ∙ zeros-gold a.seed.bits n

@@ -1,116 +1,90 @@
 -- `search::search` meets its contract.
 -- Assumes nothing.
-use Prim.Native.Nat.{ℕ, ◌+◌, ◌/◌}
-use native.Mathlib.Omega.{arith}
+use Prim.Native.Nat.{ℕ, ◌+◌}
 use mathlib.Core.Path.{◌≡◌, sym, ap, ◌∙◌}
-use mathlib.Core.Bool.{true}
+use mathlib.Core.Logic.{◌≢◌}
 use lib.ListN.{length}
 use borrow.Author.Rules.{rules}
-use Rattle.nr.proofs.Searching.{refused-is}
+use Rattle.std.proofs.lemmas.Result.{err_from_is_err_and}
+use Rattle.nr.specs.Answer.{number}
+use Rattle.nr.specs.Searching.{search_refusal}
 use Rattle.checks.proofs.Refusing.{refused, done}
-use Rattle.candidates.specs.Tryable.{tryable}
 use Rattle.candidates.proofs.Checked.{able}
-use Rattle.search.proofs.Turns.{bad-row, one_more, none_tried, Turn, skip-unable, skip, skip-refused, found_it, found_none, no-stock, room, numbers_fit, tries, no_start, start-at}
+use Rattle.search.specs.Tries.{named}
+use Rattle.search.proofs.Keeping.{same_code}
+use Rattle.search.proofs.Turns.{size-refused, bad-row, one_more, Turn, skip-unable, skip, skip-refused, found_it, found_none, room, row_fits, tries, start-at}
 use Rattle.search.proofs.search.Goals as goal
-use Rattle.search.proofs.search.Goals.{After-candidate_at-c, Else-not-is_tryable, At-values}
+use Rattle.search.proofs.search.Goals.{After-candidate_at-c}
 
 -- ---- what holds at the places of the code
 
 -- with a candidate
 turn : (c : After-candidate_at-c) → let a = c.args in
     Turn a.n_id a.region.now a.list.now a.out.now c.candidates.out c.candidates.i c.candidate_at-c.result
-turn c = record { kept = c.candidates.invariant.0; below = c.candidates-test.true; is = c.candidate_at-c.ensures }
+turn c = record { kept = c.candidates.invariant; below = c.candidates-test.true; is = c.candidate_at-c.ensures }
 
--- with one that can be tried
-tried : (c : Else-not-is_tryable) → tryable (length c.args.region.now / 108) c.candidate_at-c.result ≡ true
-tried c = sym c.is_tryable.ensures ∙ c.if-not-is_tryable.false
-
--- at a value of its row
-turn-here : (v : At-values) → let a = v.args in
-    Turn a.n_id a.region.now a.list.now a.out.now v.candidates.out v.candidates.i v.candidate_at-c.result
-turn-here v = record { kept = v.candidates.invariant.0; below = v.candidates-test.true; is = v.candidate_at-c.ensures }
+-- the lengths are right
+sized : (c : After-candidate_at-c) → let a = c.args in 0 ≡ search_refusal (length a.region.now) (length a.list.now) (length a.out.now)
+sized c = sym (done c.in_ok-check_sizes.field-0) ∙ c.in_ok-check_sizes.ensures.number
 
 -- ---- the answers
 
-pub returns-then-refused-ne0 : goal.returns-then-refused-ne0
-returns-then-refused-ne0 c =
+pub returns-in_err-check_sizes-clause-is : goal.returns-in_err-check_sizes-clause-is
+returns-in_err-check_sizes-clause-is c =
     let a = c.args in
-    let p = a.region.ref_ptr in
-    let e = c.nothing.ensures in
-    let f = refused-is a.n_id a.region.now a.list.now a.out.now c.check_sizes-refused.result c.if-refused-ne0.true (sym c.check_sizes-refused.ensures) in
-    record {
-      is = rw (e.0, e.1, e.2, e.3) f;
-      own = e.4 ∙ ap (λ (n : ℕ). (p.0, n + p.1)) (sym (no_start a.list.now _ _ _ c.if-refused-ne0.true f));
-    }
+    let p = err_from_is_err_and c.from_residual.result c.from_residual.ensures.1 in
+    rw (p.1, p.2) (size-refused a.n_id a.region.now a.list.now a.out.now c.in_err-check_sizes.field-0.0 c.in_err-check_sizes.ensures)
 
-pub candidates-init : goal.candidates-init
-candidates-init c = (none_tried _ _ _ _, no-stock _ c.no_numbers-before.ensures)
-
-pub candidates-preserved-then-not-is_tryable : goal.candidates-preserved-then-not-is_tryable
-candidates-preserved-then-not-is_tryable c = (
-  skip-unable (turn (goal.at.candidates-preserved-then-not-is_tryable c).After-candidate_at-c) (sym c.is_tryable.ensures ∙ c.if-not-is_tryable.true),
-  c.candidates.invariant.1,
-)
+pub candidates-preserved-in_default : goal.candidates-preserved-in_default
+candidates-preserved-in_default c =
+    skip-unable (turn (goal.at.candidates-preserved-in_default c).After-candidate_at-c) (sym c.in_default.ensures.able)
 
 pub slice_bounds-row-end : goal.slice_bounds-row-end
-slice_bounds-row-end c = room c.args.region.now c.candidate_at-c.result (able _ _ (tried (goal.at.slice_bounds-row-end c).Else-not-is_tryable))
+slice_bounds-row-end c = room c.args.region.now c.candidate_at-c.result (able _ _ (sym c.in-Some.ensures.able))
 
 pub candidates-preserved-then-is_outside : goal.candidates-preserved-then-is_outside
 candidates-preserved-then-is_outside c =
-    let t = turn-here (goal.at.candidates-preserved-then-is_outside c).At-values in
-    let can = tried (goal.at.candidates-preserved-then-is_outside c).Else-not-is_tryable in
+    let t = turn (goal.at.candidates-preserved-then-is_outside c).After-candidate_at-c in
     let bad = bad-row c.values.invariant c.values-test.true c.is_outside.result c.is_outside.ensures (search rules) in
-    (skip t _ t.kept.same (bad _ _ can c.if-is_outside.true), c.candidates.invariant.1)
+    skip t _ t.kept.same (bad _ _ (sym c.in-Some.ensures.able) c.if-is_outside.true)
 
 pub values-preserved : goal.values-preserved
 values-preserved c =
     one_more c.values.invariant c.values-test.true c.is_outside.result c.is_outside.ensures (search rules) c.if-is_outside.false
 
-pub extend-ready-requires : goal.extend-ready-requires
-extend-ready-requires c =
-    let k = c.candidates.invariant.1 in
-    let can = able _ _ (tried (goal.at.extend-ready-requires c).Else-not-is_tryable) in
-    (omega (arith, k.size, numbers_fit can c.numbers_of-numbers.ensures), k.terms)
+pub extend-requires : goal.extend-requires
+extend-requires c = row_fits c.values.invariant (able _ _ (sym c.in-Some.ensures.able))
 
-pub attempt-decoded-requires-clause-tries : goal.attempt-decoded-requires-clause-tries
-attempt-decoded-requires-clause-tries c =
-    let can = able _ _ (tried (goal.at.attempt-decoded-requires-clause-tries c).Else-not-is_tryable) in
-    let sized = sym c.if-refused-ne0.false ∙ c.check_sizes-refused.ensures in
-    tries (turn-here (goal.at.attempt-decoded-requires-clause-tries c).At-values) can c.values.invariant c.numbers_of-numbers.ensures c.values-test.false
-    sized c.extend-ready.ensures
+pub attempt-requires-clause-tries : goal.attempt-requires-clause-tries
+attempt-requires-clause-tries c =
+    let at = goal.at.attempt-requires-clause-tries c in
+    tries (turn at.After-candidate_at-c) (able _ _ (sym c.in-Some.ensures.able)) c.values.invariant c.numbers_of-numbers.ensures c.values-test.false
+    (sized at.After-candidate_at-c) c.extend.new.self (ap (λ s. s.bits) c.extend.ensures.0 ∙ c.c_init.ensures) c.extend.ensures.1
 
-pub returns-in-Done : goal.returns-in-Done
-returns-in-Done c =
-    let t = turn-here (goal.at.returns-in-Done c).At-values in
-    let can = tried (goal.at.returns-in-Done c).Else-not-is_tryable in
-    let sized = sym c.if-refused-ne0.false ∙ c.check_sizes-refused.ensures in
-    let r = c.attempt-decoded.result in
+pub attempt-requires-clause-lays : goal.attempt-requires-clause-lays
+attempt-requires-clause-lays c =
+    let k = c.code_for-made.ensures in
+    let s = c.in-Some.ensures.sizes in
+    let n = c.numbers_of-numbers in
+    same_code c.code_for-made.result.now n.result.a n.result.e (k.0 ∙ s.0 ∙ sym (ap (λ u. u.a) n.ensures)) (k.1 ∙ s.1 ∙ sym (ap (λ u. u.e) n.ensures))
+
+pub returns-in-Ok : goal.returns-in-Ok
+unfolding named
+returns-in-Ok c =
+    let at = (goal.at.returns-in-Ok c).After-candidate_at-c in
     let f =
-    found_it t can c.values.invariant.is c.numbers_of-numbers.ensures r.answer r.noise c.attempt-decoded.new.out c.attempt-decoded.ensures
-    (done r.answer c.in-Done.is) sized in
-    let at = c.args.region.ref_ptr in
-    record { is = f; own = ap (λ (n : ℕ). (at.0, n + at.1)) (start-at t _ _ _ _ f) }
+    found_it (turn at) (sym c.in-Some.ensures.able) c.values.invariant.is c.numbers_of-numbers.ensures c.attempt.result c.attempt.new.out c.attempt.ensures
+    c.in-Ok.noise c.in-Ok.is (sized at) in
+    let p = c.args.region.ref_ptr in
+    record { is = f; own = ap (λ (n : ℕ). (p.0, n + p.1)) (start-at (turn at) _ _ _ _ f) }
 
 pub candidates-preserved : goal.candidates-preserved
 candidates-preserved c =
-    let can = tried (goal.at.candidates-preserved c).Else-not-is_tryable in
-    let r = c.attempt-decoded.result in (
-      skip-refused (turn-here (goal.at.candidates-preserved c).At-values) can c.values.invariant.is c.numbers_of-numbers.ensures r.answer r.noise
-          c.attempt-decoded.new.out c.attempt-decoded.ensures (refused r.answer c.in_default.not-Done),
-      record {
-        size = c.extend-ready.auto.sequence ∙ c.candidates.invariant.1.size;
-        terms = c.extend-ready.ensures.1;
-        kept = record { is = λ e. c.code_for-code.ensures };
-      },
-    )
+    let refuses : number c.attempt.result ≢ 0 = λ e. refused ℕ _ (sym (ap number c.in_default-attempt.is) ∙ e) in
+    skip-refused (turn (goal.at.candidates-preserved c).After-candidate_at-c) (sym c.in-Some.ensures.able) c.values.invariant.is c.numbers_of-numbers.ensures
+    c.attempt.result c.attempt.new.out c.attempt.ensures refuses
 
-pub returns : goal.returns
-returns c =
-    let a = c.args in
-    let p = a.region.ref_ptr in
-    let e = c.nothing-2.ensures in
-    let f = found_none c.candidates.invariant.0 c.candidates-test.false (sym c.if-refused-ne0.false ∙ c.check_sizes-refused.ensures) in
-    record {
-      is = rw (e.0, e.1, e.2, e.3) f;
-      own = e.4 ∙ ap (λ (n : ℕ). (p.0, n + p.1)) (sym (no_start a.list.now _ 8 _ (λ z. omega arith) f));
-    }
+pub returns-clause-is : goal.returns-clause-is
+unfolding named number
+returns-clause-is c =
+    found_none c.candidates.invariant c.candidates-test.false (sym (done c.in_ok-check_sizes.field-0) ∙ c.in_ok-check_sizes.ensures.number)

@@ -1,70 +1,53 @@
 -- `self_test::loopback` meets its contract.
 -- Assumes nothing.
-use Prim.Native.Nat.{◌≤◌}
-use native.Mathlib.Omega.{arith}
-use mathlib.Core.Path.{◌≡◌, ◌∙◌}
-use lib.ListN.{length}
-use Rattle.nr.specs.Rows.{first}
-use Rattle.nr.specs.Coding.{bad_byte}
+use mathlib.Core.Path.{◌≡◌, sym, ◌∙◌}
+use Rattle.std.proofs.lemmas.Result.{err_from_is_err_and}
 use Rattle.nr.specs.Loopback.{bad_strength}
-use Rattle.dci.proofs.Ranges.{first-strength}
-use Rattle.checks.proofs.Refusing.{refused}
+use Rattle.checks.specs.Checks.{first_at}
 use Rattle.self_test.proofs.Looping.{first-refused, second-refused, byte-refused, strength-refused, loops, loop-done}
 use Rattle.self_test.proofs.loopback.Goals as goal
-use Rattle.self_test.proofs.loopback.Goals.{After-first_outside-strength, Else-byte-payload, Else-strength-strengths}
-
--- no byte of the payload is bad
-bytes : (c : Else-byte-payload) → let a = c.args in length a.payload.now ≤ first bad_byte a.payload.now
-bytes c = omega (arith, c.first_bad-byte.ensures)
+use Rattle.self_test.proofs.loopback.Goals.{After-first_outside}
 
 -- the place that was looked for is that of the first bad strength
-strength-is : (c : After-first_outside-strength) → c.first_outside-strength.result ≡ first bad_strength c.args.strengths.now
-strength-is c = c.first_outside-strength.ensures ∙ first-strength c.args.strengths.now
+strength-is : (c : After-first_outside) → first_at bad_strength c.args.strengths.now ≡ c.first_outside.result
+unfolding bad_strength
+strength-is c = sym c.first_outside.ensures
 
--- no strength is bad
-strong : (c : Else-strength-strengths) → let a = c.args in length a.strengths.now ≤ first bad_strength a.strengths.now
-strong c = omega (arith, c.first_outside-strength.ensures ∙ first-strength c.args.strengths.now)
-
--- ---- the answers
-
-pub returns-in_default : goal.returns-in_default
-returns-in_default c =
+pub returns-in_err-check_sizes : goal.returns-in_err-check_sizes
+returns-in_err-check_sizes c =
     let a = c.args in
-    let r = c.check_sizes-first in
-    first-refused a.numbers a.payload.now a.strengths.now a.out.now r.result r.ensures (refused r.result c.in_default.not-Done)
-
-pub returns-in_default-second : goal.returns-in_default-second
-returns-in_default-second c =
-    let a = c.args in
-    let r = c.check_sizes-second in
-    second-refused a.numbers a.payload.now a.strengths.now a.out.now c.check_sizes-first.result c.check_sizes-first.ensures c.in-Done.is
-    r.result r.ensures (refused r.result c.in_default-second.not-Done)
-
-pub returns-then-byte-payload : goal.returns-then-byte-payload
-returns-then-byte-payload c =
-    let a = c.args in
-    byte-refused a.numbers a.payload.now a.strengths.now a.out.now c.check_sizes-first.result c.check_sizes-first.ensures c.in-Done.is
-    c.check_sizes-second.result c.check_sizes-second.ensures c.in-Done-second.is c.first_bad-byte.result c.first_bad-byte.ensures c.if-byte-payload.true
-
-pub returns-then-strength-strengths : goal.returns-then-strength-strengths
-returns-then-strength-strengths c =
-    let a = c.args in
-    let g = goal.at.returns-then-strength-strengths c in
-    strength-refused a.numbers a.payload.now a.strengths.now a.out.now c.check_sizes-first.result c.check_sizes-first.ensures c.in-Done.is
-    c.check_sizes-second.result c.check_sizes-second.ensures c.in-Done-second.is (bytes g.Else-byte-payload)
-    c.first_outside-strength.result (strength-is g.After-first_outside-strength) c.if-strength-strengths.true
+    let p = err_from_is_err_and c.from_residual.result c.from_residual.ensures.1 in
+    rw (p.1, p.2) (first-refused a.numbers a.payload.now a.strengths.now a.out.now _ c.in_err-check_sizes.ensures.says)
 
 pub through-requires : goal.through-requires
 through-requires c =
     let a = c.args in
-    let g = goal.at.through-requires c in
-    loops a.numbers a.payload.now a.strengths.now a.out.now c.check_sizes-first.result c.check_sizes-first.ensures c.in-Done.is
-    c.check_sizes-second.result c.check_sizes-second.ensures c.in-Done-second.is (bytes g.Else-byte-payload) (strong g.Else-strength-strengths)
+    loops a.numbers a.payload.now a.strengths.now a.out.now _ c.in_ok-check_sizes.ensures.says _ c.in_ok-check_sizes-2.ensures.says
+    (sym c.in_default.ensures) (strength-is (goal.at.through-requires c).After-first_outside ∙ c.in_default-first_outside.is)
+
+pub returns-in_err-check_sizes-2 : goal.returns-in_err-check_sizes-2
+returns-in_err-check_sizes-2 c =
+    let a = c.args in
+    let r = c.from_residual-in_err-check_sizes-2 in
+    let p = err_from_is_err_and r.result r.ensures.1 in
+    rw (p.1, p.2)
+    (second-refused a.numbers a.payload.now a.strengths.now a.out.now _ c.in_ok-check_sizes.ensures.says _ c.in_err-check_sizes-2.ensures.says)
+
+pub returns-in-Some : goal.returns-in-Some
+returns-in-Some c =
+    let a = c.args in
+    byte-refused a.numbers a.payload.now a.strengths.now a.out.now _ c.in_ok-check_sizes.ensures.says _ c.in_ok-check_sizes-2.ensures.says
+    c.in-Some.byte (sym c.in-Some.ensures)
+
+pub returns-in-Some-first_outside : goal.returns-in-Some-first_outside
+returns-in-Some-first_outside c =
+    let a = c.args in
+    strength-refused a.numbers a.payload.now a.strengths.now a.out.now _ c.in_ok-check_sizes.ensures.says _ c.in_ok-check_sizes-2.ensures.says
+    (sym c.in_default.ensures) c.in-Some-first_outside.strength
+    (strength-is (goal.at.returns-in-Some-first_outside c).After-first_outside ∙ c.in-Some-first_outside.is)
 
 pub returns : goal.returns
 returns c =
     let a = c.args in
-    let g = goal.at.returns c in
-    loop-done a.numbers a.payload.now a.strengths.now a.out.now c.check_sizes-first.result c.check_sizes-first.ensures c.in-Done.is
-    c.check_sizes-second.result c.check_sizes-second.ensures c.in-Done-second.is (bytes g.Else-byte-payload) (strong g.Else-strength-strengths)
-    c.through.ensures
+    loop-done a.numbers a.payload.now a.strengths.now a.out.now _ c.in_ok-check_sizes.ensures.says _ c.in_ok-check_sizes-2.ensures.says
+    (sym c.in_default.ensures) (strength-is (goal.at.returns c).After-first_outside ∙ c.in_default-first_outside.is) c.through.ensures

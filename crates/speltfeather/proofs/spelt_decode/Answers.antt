@@ -5,19 +5,17 @@ use mathlib.Core.Path.{ap, ◌∙◌}
 use Rattle.nr.specs.declared.Numbers.{Numbers}
 use Rattle.nr.specs.Decoding.{decoding}
 use Rattle.nr.proofs.Promise1.{decoding-place}
-use Rattle.nr.proofs.Recoding.{decoding-noise-small}
 use Rattle.speltfeather.proofs.Packing.{counted-returned, counted-small}
 use Rattle.speltfeather.proofs.spelt_decode.Goals as goal
 
 pub returns : goal.returns
 returns c =
     let a = c.args in
-    counted-returned _ c.decode-decoded.result.answer c.decode-decoded.result.noise c.decode-decoded.new.out
+    counted-returned c.decode-decoded.result c.decode-decoded.new.out
     (c.decode-decoded.ensures ∙ ap (λ (s : Numbers). decoding s a.soft.now a.out.now) c.as_numbers.ensures) c.pack_counted.result c.pack_counted.ensures
 
 pub pack_counted-requires : goal.pack_counted-requires
 pack_counted-requires c =
     let a = c.args in
-    counted-small _ c.decode-decoded.result.answer c.decode-decoded.result.noise c.decode-decoded.new.out c.decode-decoded.ensures
+    counted-small c.decode-decoded.result c.decode-decoded.new.out c.decode-decoded.ensures
     (omega (arith, decoding-place c.as_numbers.result a.soft.now a.out.now))
-    (decoding-noise-small c.as_numbers.result a.soft.now a.out.now)

@@ -1,19 +1,16 @@
 -- `speltfeather::spelt_describe` meets its contract.
 -- Assumes nothing.
 use native.Mathlib.Omega.{arith}
-use Rattle.nr.specs.Describing.{describing}
 use Rattle.nr.proofs.Describing.{describing-place}
-use Rattle.speltfeather.proofs.Packing.{returned, small}
+use Rattle.speltfeather.proofs.Packing.{done-returned, refused-returned, refused-small}
 use Rattle.speltfeather.proofs.spelt_describe.Goals as goal
 
-pub returns : goal.returns
-returns c =
-    let a = c.args in
-    returned (describing a.a a.e a.out.now) c.describe-described.result c.describe-described.new.out c.describe-described.ensures
-    c.pack.result c.pack.ensures
+pub returns-in-Ok : goal.returns-in-Ok
+returns-in-Ok c = done-returned _ c.in-Ok.ensures
+
+pub returns-in-Err : goal.returns-in-Err
+returns-in-Err c = refused-returned _ _ _ c.in-Err.ensures c.pack.result c.pack.ensures
 
 pub pack-requires : goal.pack-requires
 pack-requires c =
-    let a = c.args in
-    small (describing a.a a.e a.out.now) c.describe-described.result c.describe-described.new.out c.describe-described.ensures
-    (omega (arith, describing-place a.a a.e a.out.now))
+    refused-small _ c.in-Err.refusal c.describe.new.out c.in-Err.ensures (omega (arith, describing-place c.args.a c.args.e c.args.out.now))
