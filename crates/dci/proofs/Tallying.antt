@@ -34,53 +34,49 @@ pub bits-word : (l : Layout) (e : ℕ) (q : List ℕ) (soft : List ℤ) → Bits
 unfolding decided
 bits-word l e q soft = bits-transform l.n (decided l e q soft) (bits-successive _ _ _)
 
-module _ {s : Numbers} {made : Code} {sequence : List ℕ} {soft : List ℤ} {out : List ℕ} (h : Handed s made sequence soft out) where
+module _ (s : Numbers) (soft : List ℤ) (ok : refusal s.a s.e ≡ 0) where
   abbrev l : Layout
   l = layout (K s.a) s.e
 
+  abbrev b : List ℕ
+  b = received l s.e s.rnti (c_init s) soft
+
   few : length l.positions ≤ 164
-  few = let z = accepted s.a s.e h.ok in omega (arith, (positions (K s.a) s.e z).size, z.high)
+  few = let z = accepted s.a s.e ok in omega (arith, (positions (K s.a) s.e z).size, z.high)
 
   -- what the decided word sends, against the soft values
   abbrev tally : Layout → ℕ → List ℕ → ℕ
   tally l e q = noise_count soft (xors (select l.kind (2 ^ l.n) e (decided_word l e q soft)) q)
 
   -- where the parity matches, the decided word is that of the payload coded again
-  pub counted-again : parity_matches s.a (received l s.e s.rnti (c_init s) soft) ≡ true
-      → tally (layout_of made) (length soft) sequence ≡ noise_of l s soft (take s.a (received l s.e s.rnti (c_init s) soft))
+  again : parity_matches s.a b ≡ true → tally l s.e (gold (c_init s) s.e) ≡ noise_of l s soft (take s.a b)
   unfolding noise_of
-  counted-again m = as_asked h tally ∙ ap (noise_count soft) (sym (coded-again l s.e s.rnti (c_init s) soft few s.a (holds m)))
+  again m = ap (noise_count soft) (sym (coded-again l s.e s.rnti (c_init s) soft few s.a (holds m)))
 
--- so a count that is made where it matches, and else is 0, is that of decoding
-module _ (s : Numbers) (soft : List ℤ) (ok : refusal s.a s.e ≡ 0) (size : length soft ≡ s.e) (made : Code) (lays : Lays (layout (K s.a) s.e) made) where
-  abbrev lay : Layout
-  lay = layout (K s.a) s.e
+  -- so a count that is made where it matches, and else is 0, is that of decoding
+  module _ (size : length soft ≡ s.e) (made : Code) (lays : Lays l made) where
+    abbrev sent : RateMatching → ℕ → ℕ → List ℕ
+    sent kind n E = xors (select kind (2 ^ n) E (decided_word l s.e (gold (c_init s) s.e) soft)) (gold (c_init s) s.e)
 
-  abbrev c : List ℕ
-  c = gold (c_init s) s.e
+    sent_is : sent made.kind made.length.n (length soft) ≡ sent l.kind l.n s.e
+    sent_is =
+        ap₂ (λ (kind : RateMatching) (n : ℕ). sent kind n (length soft)) lays.kind lays.n
+        ∙ ap (sent l.kind l.n) size
 
-  abbrev word : List ℕ
-  word = decided_word lay s.e c soft
+    pub tallied : (t : Bool) → parity_matches s.a b ≡ t → (noise : ℕ)
+        → noise ≡ on_done (cond t 0 7) (noise_count soft (sent made.kind made.length.n (length soft)))
+        → noise ≡ on_done (or_parity 0 s.a b) (noise_of l s soft (take s.a b))
+    unfolding or_parity on_done
+    tallied true m noise e =
+        e ∙ ap (noise_count soft) sent_is ∙ again m
+        ∙ sym (ap (λ (t : Bool). on_done (cond t 0 7) (noise_of l s soft (take s.a b))) m)
+    tallied false m noise e = e ∙ sym (ap (λ (t : Bool). on_done (cond t 0 7) (noise_of l s soft (take s.a b))) m)
 
-  abbrev b : List ℕ
-  b = received lay s.e s.rnti (c_init s) soft
-
-  at-most : length lay.positions ≤ 164
-  at-most = let z = accepted s.a s.e ok in omega (arith, (positions (K s.a) s.e z).size, z.high)
-
-  abbrev sent : RateMatching → ℕ → ℕ → List ℕ
-  sent kind n E = xors (select kind (2 ^ n) E word) c
-
-  sent_is : sent made.kind made.length.n (length soft) ≡ sent lay.kind lay.n s.e
-  sent_is =
-      ap₂ (λ (kind : RateMatching) (n : ℕ). sent kind n (length soft)) lays.kind lays.n
-      ∙ ap (sent lay.kind lay.n) size
-
-  pub tallied : (t : Bool) → parity_matches s.a b ≡ t → (noise : ℕ)
-      → noise ≡ on_done (cond t 0 7) (noise_count soft (sent made.kind made.length.n (length soft)))
-      → noise ≡ on_done (or_parity 0 s.a b) (noise_of lay s soft (take s.a b))
-  unfolding or_parity on_done noise_of
-  tallied true m noise e =
-      e ∙ ap (noise_count soft) (sent_is ∙ sym (coded-again lay s.e s.rnti (c_init s) soft at-most s.a (holds m)))
-      ∙ sym (ap (λ (t : Bool). on_done (cond t 0 7) (noise_of lay s soft (take s.a b))) m)
-  tallied false m noise e = e ∙ sym (ap (λ (t : Bool). on_done (cond t 0 7) (noise_of lay s soft (take s.a b))) m)
+-- the same of the code and the sequence that are handed in
+pub counted-again : {s : Numbers} {made : Code} {sequence : List ℕ} {soft : List ℤ} {out : List ℕ} (h : Handed s made sequence soft out)
+    → let l : Layout = layout (K s.a) s.e in
+    let b : List ℕ = received l s.e s.rnti (c_init s) soft in
+    parity_matches s.a b ≡ true
+    → noise_count soft (xors (select made.kind (2 ^ made.length.n) (length soft) (decided_word (layout_of made) (length soft) sequence soft)) sequence)
+    ≡ noise_of l s soft (take s.a b)
+counted-again {s = s} {soft = soft} h m = as_asked h (tally s soft h.ok) ∙ again s soft h.ok m
