@@ -46,7 +46,6 @@ pub fn candidate_at(list: &[u32], i: usize) -> Candidate
 }
 
 // Whether a message may lie in `level` CCEs from CCE `first` on, in a region of so many.
-#[tactic(auto, using(std::proofs::lemmas::Bool::Decides::nat_tests), unfolding(nr::specs::Searching::fits))]
 pub fn is_placed(cces: usize, first: u32, level: u32) -> bool
     ensures { result ≡ fits cces first level }
 {

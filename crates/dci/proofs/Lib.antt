@@ -5,3 +5,4 @@ pub mod Outcomes
 pub mod Judging
 pub mod Tallying
 pub mod Telling
+pub mod Bounded

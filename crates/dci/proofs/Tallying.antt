@@ -2,7 +2,7 @@
 -- Assumes nothing.
 use Prim.Native.Nat.{ℕ, ◌^◌, ◌≤◌}
 use native.Mathlib.Omega.{arith}
-use mathlib.Core.Path.{◌≡◌, sym, ap, ap₂, ◌∙◌}
+use mathlib.Core.Path.{◌≡◌, refl, sym, ap, ap₂, ◌∙◌}
 use mathlib.Core.Bool.{Bool, true, false, cond}
 use mathlib.Core.List.{List}
 use lib.IntN.{ℤ}
@@ -79,4 +79,11 @@ pub counted-again : {s : Numbers} {made : Code} {sequence : List ℕ} {soft : Li
     parity_matches s.a b ≡ true
     → noise_count soft (xors (select made.kind (2 ^ made.length.n) (length soft) (decided_word (layout_of made) (length soft) sequence soft)) sequence)
     ≡ noise_of l s soft (take s.a b)
-counted-again {s = s} {soft = soft} h m = as_asked h (tally s soft h.ok) ∙ again s soft h.ok m
+unfolding or_parity on_done
+counted-again {s = s} {made = made} {soft = soft} h m =
+    let l : Layout = layout (K s.a) s.e in
+    let payload : List ℕ = take s.a (received l s.e s.rnti (c_init s) soft) in
+    ap₂ (λ (w q : List ℕ). noise_count soft (xors (select made.kind (2 ^ made.length.n) (length soft) w) q))
+    (as_asked h (λ (l : Layout) (e : ℕ) (q : List ℕ). decided_word l e q soft)) h.terms
+    ∙ tallied s soft h.ok h.received made h.lays true m _ refl
+    ∙ ap (λ (t : Bool). on_done (cond t 0 7) (noise_of l s soft payload)) m

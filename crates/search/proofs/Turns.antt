@@ -27,7 +27,7 @@ use Rattle.nr.proofs.Tests.{fails}
 use Rattle.nr.proofs.Construction.{accepted as sized}
 use Rattle.nr.proofs.Refusals.{longest, first-none}
 use Rattle.nr.proofs.Promise1.{decoding-untouched}
-use Rattle.nr.proofs.Searching.{refused-is, fits-exactly, stretch-length, sixteen-exactly, decodes-exactly, bad-undecoded, unrefused, first-named, none_named}
+use Rattle.nr.proofs.Searching.{refused-is, fits-exactly, stretch-length, sixteen-exactly, decodes-exactly, bad-undecoded, unrefused, first-named, none_named, searching-nameless}
 use Rattle.checks.specs.Checks.{beyond, Says}
 use Rattle.checks.proofs.Refusing.{refused, done, passed_on}
 use Rattle.dci.specs.Judged.{counted, told}
@@ -166,6 +166,12 @@ pub start-at : {n : ℕ} {region : List ℤ} {list out₀ out : List ℕ} {i : �
 unfolding start_of
 start-at {list = list} t f part new noise e =
     ap (λ (d : Candidate). 108 * d.first * 4) t.is ∙ ap (λ (g : Found). start_of list g * 4) e
+
+-- that of a refusal, which is empty, starts where the region does
+pub no_start : (n : ℕ) (region : List ℤ) (list out : List ℕ) (r : Refusal) (buffer : List ℕ)
+    → named (Err r) buffer ≡ searching n region list out → start_of list (searching n region list out) ≡ 0
+unfolding named
+no_start n region list out r buffer e = (searching-nameless n region list out (λ z. refused ℕ r (ap (λ (f : Found). f.number) e ∙ z))).start
 
 -- a candidate that can be tried lies within the region
 pub room : (region : List ℤ) (c : Candidate) → Able (length region / 108) c → 108 * c.first + 108 * c.level ≤ length region

@@ -36,13 +36,6 @@ collect-positions-requires c =
     let s = c.shape_of-shape.result in
     (omega (arith, size b, inside b), omega (arith, ap length (found s c.bits.result c.bits.ensures c.mark.new.row c.mark.ensures), few s))
 
-pub invariant_of-result : goal.invariant_of-result
-invariant_of-result c =
-    let s = c.shape_of-shape.result in record {
-      few = omega (arith, many s, few s);
-      placed = placed s c.collect-positions.result (row (goal.at.invariant_of-result c).After-collect-positions);
-    }
-
 pub returns : goal.returns
 unfolding layout
 returns c =
@@ -52,4 +45,11 @@ returns c =
       kind = s.kind_is ∙ ap (λ (l : Layout). l.kind) same;
       k = many s ∙ ap (λ (l : Layout). length l.positions) same;
       positions = row (goal.at.returns c).After-collect-positions ∙ ap (λ (l : Layout). padded l.positions) same;
+    }
+
+pub invariant_of-result : goal.invariant_of-result
+invariant_of-result c =
+    let s = c.shape_of-shape.result in record {
+      few = omega (arith, many s, few s);
+      placed = placed s c.collect-positions.result (row (goal.at.invariant_of-result c).After-collect-positions);
     }

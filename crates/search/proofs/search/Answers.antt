@@ -6,13 +6,14 @@ use mathlib.Core.Logic.{◌≢◌}
 use lib.ListN.{length}
 use borrow.Author.Rules.{rules}
 use Rattle.std.proofs.lemmas.Result.{err_from_is_err_and}
+use Rattle.nr.specs.declared.Refusal.TheVariants.{NoCandidate}
 use Rattle.nr.specs.Answer.{number}
 use Rattle.nr.specs.Searching.{search_refusal}
 use Rattle.checks.proofs.Refusing.{refused, done}
 use Rattle.candidates.proofs.Checked.{able}
 use Rattle.search.specs.Tries.{named}
 use Rattle.search.proofs.Keeping.{same_code}
-use Rattle.search.proofs.Turns.{size-refused, bad-row, one_more, Turn, skip-unable, skip, skip-refused, found_it, found_none, room, row_fits, tries, start-at}
+use Rattle.search.proofs.Turns.{size-refused, bad-row, one_more, Turn, skip-unable, skip, skip-refused, found_it, found_none, room, row_fits, tries, no_start, start-at}
 use Rattle.search.proofs.search.Goals as goal
 use Rattle.search.proofs.search.Goals.{After-candidate_at-c}
 
@@ -34,6 +35,14 @@ returns-in_err-check_sizes-clause-is c =
     let a = c.args in
     let p = err_from_is_err_and c.from_residual.result c.from_residual.ensures.1 in
     rw (p.1, p.2) (size-refused a.n_id a.region.now a.list.now a.out.now c.in_err-check_sizes.field-0.0 c.in_err-check_sizes.ensures)
+
+pub returns-in_err-check_sizes-clause-own_refused : goal.returns-in_err-check_sizes-clause-own_refused
+returns-in_err-check_sizes-clause-own_refused c =
+    let a = c.args in
+    let p = err_from_is_err_and c.from_residual.result c.from_residual.ensures.1 in
+    rw p.1
+    (no_start a.n_id a.region.now a.list.now a.out.now c.in_err-check_sizes.field-0.0 a.out.now
+    (size-refused a.n_id a.region.now a.list.now a.out.now c.in_err-check_sizes.field-0.0 c.in_err-check_sizes.ensures))
 
 pub candidates-preserved-in_default : goal.candidates-preserved-in_default
 candidates-preserved-in_default c =
@@ -68,15 +77,21 @@ attempt-requires-clause-lays c =
     let n = c.numbers_of-numbers in
     same_code c.code_for-made.result.now n.result.a n.result.e (k.0 ∙ s.0 ∙ sym (ap (λ u. u.a) n.ensures)) (k.1 ∙ s.1 ∙ sym (ap (λ u. u.e) n.ensures))
 
-pub returns-in-Ok : goal.returns-in-Ok
+pub returns-in-Ok-clause-is : goal.returns-in-Ok-clause-is
 unfolding named
-returns-in-Ok c =
-    let at = (goal.at.returns-in-Ok c).After-candidate_at-c in
+returns-in-Ok-clause-is c =
+    let at = (goal.at.returns-in-Ok-clause-is c).After-candidate_at-c in
+    found_it (turn at) (sym c.in-Some.ensures.able) c.values.invariant.is c.numbers_of-numbers.ensures c.attempt.result c.attempt.new.out c.attempt.ensures
+    c.in-Ok.noise c.in-Ok.is (sized at)
+
+pub returns-in-Ok-clause-own : goal.returns-in-Ok-clause-own
+returns-in-Ok-clause-own c =
+    let at = (goal.at.returns-in-Ok-clause-own c).After-candidate_at-c in
     let f =
     found_it (turn at) (sym c.in-Some.ensures.able) c.values.invariant.is c.numbers_of-numbers.ensures c.attempt.result c.attempt.new.out c.attempt.ensures
     c.in-Ok.noise c.in-Ok.is (sized at) in
     let p = c.args.region.ref_ptr in
-    record { is = f; own = ap (λ (n : ℕ). (p.0, n + p.1)) (start-at (turn at) _ _ _ _ f) }
+    ap (λ (n : ℕ). (p.0, n + p.1)) (start-at (turn at) _ _ _ _ f)
 
 pub candidates-preserved : goal.candidates-preserved
 candidates-preserved c =
@@ -88,3 +103,10 @@ pub returns-clause-is : goal.returns-clause-is
 unfolding named number
 returns-clause-is c =
     found_none c.candidates.invariant c.candidates-test.false (sym (done c.in_ok-check_sizes.field-0) ∙ c.in_ok-check_sizes.ensures.number)
+
+pub returns-clause-own_refused : goal.returns-clause-own_refused
+unfolding named number
+returns-clause-own_refused c =
+    let a = c.args in
+    no_start a.n_id a.region.now a.list.now a.out.now NoCandidate _
+    (found_none c.candidates.invariant c.candidates-test.false (sym (done c.in_ok-check_sizes.field-0) ∙ c.in_ok-check_sizes.ensures.number))
