@@ -3,10 +3,10 @@
 
 mod kept;
 
-ghost use Rattle.std.specs.Prelude.{◌≡◌, ◌+◌, ◌*◌, true, IfOk, IfErr};
+ghost use Rattle.std.specs.Prelude.{◌≡◌, ◌+◌, ◌*◌, true, length, IfOk, IfErr};
 ghost use Rattle.nr.specs.Numbers.{K};
 ghost use Rattle.nr.specs.Construction.{layout};
-ghost use Rattle.nr.specs.Searching.{numbers_of, sixteen_bits, searching, start_of};
+ghost use Rattle.nr.specs.Searching.{numbers_of, sixteen_bits, search_refusal, searching, start_of};
 ghost use Rattle.construction.specs.Shapes.{Lays};
 ghost use Rattle.dci.specs.Judged.{told};
 ghost use Rattle.search.specs.Tries.{Tries, attempted, named};
@@ -52,22 +52,19 @@ fn attempt(
     dci::accept(numbers, code, terms.first(row.len()), row, &mut out[..a])
 }
 
-// Searches the candidates, five numbers each, in a region of CCEs of 108 soft values. Where one decodes it is named, with its place in
-// the list, its stretch of the region and its noise count, and its payload stands at the start of the output; else the search is
-// refused with 4 (lengths of the region and the list), 5 (length of the output) or 8 (none decodes), and the output is as it was. The
-// stretch is the caller's own: it stands where it does in the region, whose values have 4 bytes. With a refusal there is none; the empty
-// one that `named` reads there starts where the region does.
-pub fn search<'a>(
+// The search behind its checks. A function of its own, so that a call that is refused sets up nothing for it.
+#[inline(never)]
+fn among<'a>(
     n_id: u16,
     region: &'a [i32],
     list: &[u32],
     out: &mut [u8],
 ) -> Result<Found<'a>, Refusal>
+    requires { 0 ≡ search_refusal (length region.now) (length list.now) (length out.old) }
     ensures is { named result out.new ≡ searching n_id region.now list.now out.old }
     ensures own { IfOk result (λ f. f.stretch.ref_ptr ≡ (region.entry.ref_ptr.0, start_of list.now (searching n_id region.now list.now out.old) * 4 + region.entry.ref_ptr.1)) }
     ensures own_refused { IfErr result (λ _. start_of list.now (searching n_id region.now list.now out.old) ≡ 0) }
 {
-    candidates::check_sizes(region.len(), list.len(), out.len())?;
     let mut terms = Terms::none();
     let mut before = None;
     'candidates: for i in 0..list.len() / 5 {
@@ -94,4 +91,23 @@ pub fn search<'a>(
         }
     }
     Err(Refusal::NoCandidate)
+}
+
+// Searches the candidates, five numbers each, in a region of CCEs of 108 soft values. Where one decodes it is named, with its place in
+// the list, its stretch of the region and its noise count, and its payload stands at the start of the output; else the search is
+// refused with 4 (lengths of the region and the list), 5 (length of the output) or 8 (none decodes), and the output is as it was. The
+// stretch is the caller's own: it stands where it does in the region, whose values have 4 bytes. With a refusal there is none; the empty
+// one that `named` reads there starts where the region does.
+pub fn search<'a>(
+    n_id: u16,
+    region: &'a [i32],
+    list: &[u32],
+    out: &mut [u8],
+) -> Result<Found<'a>, Refusal>
+    ensures is { named result out.new ≡ searching n_id region.now list.now out.old }
+    ensures own { IfOk result (λ f. f.stretch.ref_ptr ≡ (region.entry.ref_ptr.0, start_of list.now (searching n_id region.now list.now out.old) * 4 + region.entry.ref_ptr.1)) }
+    ensures own_refused { IfErr result (λ _. start_of list.now (searching n_id region.now list.now out.old) ≡ 0) }
+{
+    candidates::check_sizes(region.len(), list.len(), out.len())?;
+    among(n_id, region, list, out)
 }

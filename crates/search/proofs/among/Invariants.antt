@@ -1,7 +1,7 @@
--- `search::search` meets its contract.
+-- `search::among` meets its contract.
 -- Assumes nothing.
 use Rattle.search.proofs.Turns.{Passed, Passed_over}
-use Rattle.search.proofs.search.Given as goal
+use Rattle.search.proofs.among.Given as goal
 
 abbrev pub invariant-values : goal.invariant-values
 invariant-values l = Passed l.region l.c l.row l.x-index
